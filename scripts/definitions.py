@@ -47,8 +47,9 @@ class Module:
             for kept, declared in DEFINED.findall("\n".join(lines)):
                 self.named.setdefault(kept or declared, number)
             # The constructors of a type and the fields of a record.
-            for name in re.findall(r"^ +(?:pub )?(\w+) :", body, re.M):
-                self.named.setdefault(name, number)
+            for names in re.findall(r"^ +(?:pub )?((?!(?:abbrev|unfoldable|pub|private|record|data) )\w+(?: \w+)*) :", body, re.M):
+                for name in names.split():
+                    self.named.setdefault(name, number)
 
 
 class Source:

@@ -1,17 +1,22 @@
 """The parts of the manual pages that are made of other sources. The forms of the commands are those of `help_text`, the definition that
-`--help` is proved to print; the headings of docs/reference/cli.md have to be the same; and what the manual pages say of commands, statuses,
-messages and the journal's bytes is said in that page and in journal-format.md. The table of keys in docs/reference/board.md is the list
-that the board itself shows."""
+`--help` is proved to print; the code's text is made of it too. The headings of docs/reference/cli.md have to be the same, and so the table of the usage lines and those by which
+words are defined. What the manual pages say of commands, statuses, messages and the journal's bytes is said in that page and in
+journal-format.md. The table of keys in docs/reference/board.md is the list that the board itself shows."""
 
 import json
 import os
 import re
 
-HELP = "crates/apron_run/specs/Print.antt"
+HELP, PRINTED = "crates/apron_run/specs/Print.antt", "crates/apron_run/src/print.rt"
 COMMANDS = "docs/reference/cli.md"
+USAGE = "crates/apron/src/forms.rt"
+TABLES = ("crates/apron_run/specs/Words.antt", "crates/apron_serve/specs/Orders.antt")
 MANUALS = ("packaging/man/apron.1", "packaging/man/apron-journal.5")
 KEYS, BOARD = "board/keys.js", "docs/reference/board.md"
+# What `main` takes off before the words are read as the tables of the definitions have them.
+TAKEN_OFF = {"ADDRESS", "WORKERS", "SCREENADDRESS", "SCREENS", "JOURNAL"}
 FORM = re.compile(r"^apron ((?:--)?[a-z]+(?: (?:[A-Z]+|screen))*)(?= |$)", re.M)
+TEXT = re.compile(r'(fn help\(\) .*?\{\n    b")[^"]*(?="\n\})', re.S)
 PART = re.compile(r'(\.\\" Made of (.+?)(?:, (.+?))? by scripts/manuals\.\n).*?(\.\\" End\.\n)', re.S)
 TABLE = re.compile(r"(<!-- scripts/manuals keys -->\n).*?(<!-- end of the table -->\n)", re.S)
 INLINE = re.compile(r"`(?P<code>[^`]+)`|\*\*(?P<bold>.+?)\*\*|\*(?P<term>[^*]+)\*|\[(?P<link>(?:[^\[\]]|`[^`]*`)+)\]\([^)]*\)")
@@ -22,10 +27,42 @@ def read(top, path):
         return file.read()
 
 
+def help_text(top):
+    """What --help prints, as a text in quotes has it."""
+    return re.search(r'^help_text =\n\s*codes "(.*)"$', read(top, HELP), re.M)[1]
+
+
 def forms(top):
     """Each command with its arguments, in the order of --help."""
-    text = re.search(r'^help_text =\n\s*codes "(.*)"$', read(top, HELP), re.M)[1]
-    return FORM.findall(text.replace("\\n", "\n"))
+    return FORM.findall(help_text(top).replace("\\n", "\n"))
+
+
+def usage_forms(top):
+    """Each command with its arguments, as the table of the usage lines has it: without what stands in brackets, and with it."""
+    for first, wanted, counts in re.findall(r'first: "(.+?)",\s+wanted: "(.+?)",\s+does: ".+?",\s+counts: &\[(.+?)\],', read(top, USAGE)):
+        arguments = wanted.replace("no other words", "")
+        made = dict.fromkeys((re.sub(r" \[.*?\]", "", arguments), re.sub(r"[\[\]]", "", arguments)))
+        if [len(it.split()) for it in made] != [int(it) for it in counts.split(",")]:
+            yield f"{first} with counts {counts}"
+        yield from (f"{first} {it}".strip() for it in made)
+
+
+def table_rows(top):
+    """The rows of the tables of the definitions: a first word, and how many tests come after it."""
+    for path in TABLES:
+        for word, tests in re.findall(r'\(\s*codes "(\S+)",\s+([^\[]*)\[\],', read(top, path)):
+            yield word, tests.count("∷")
+
+
+def form_faults(top):
+    """The tables that have other forms than `--help`."""
+    listed = forms(top)
+    if (usage := list(usage_forms(top))) != listed:
+        yield f"{USAGE}: its forms are {usage}, and those of --help {listed}"
+    words = [form.split() for form in listed]
+    counted = sorted((first, len([it for it in rest if it not in TAKEN_OFF])) for first, *rest in words)
+    if (rows := sorted(table_rows(top))) != counted:
+        yield f"{' and '.join(TABLES)}: their forms with as many words are {rows}, and those of --help {counted}"
 
 
 def roff(text):
@@ -106,9 +143,14 @@ def board(top):
     return TABLE.sub(lambda it: it[1] + "\n| Key | What it does |\n|---|---|\n" + "".join(lines) + "\n" + it[2], read(top, BOARD))
 
 
+def printed(top):
+    """The code that prints --help, as it has to be."""
+    return TEXT.sub(lambda it: it[1] + help_text(top), read(top, PRINTED))
+
+
 def made_pages(top):
-    """The pages with parts that are made, as they have to be."""
-    return {**{path: manual(top, path) for path in MANUALS}, BOARD: board(top)}
+    """The pages and the code with parts that are made, as they have to be."""
+    return {**{path: manual(top, path) for path in MANUALS}, BOARD: board(top), PRINTED: printed(top)}
 
 
 def manual_faults(top):
@@ -116,6 +158,7 @@ def manual_faults(top):
     headings = re.findall(r"^### `(.+?)`$", read(top, COMMANDS), re.M)
     if headings != forms(top):
         yield f"{COMMANDS}: its commands are {headings}, and those of --help {forms(top)}"
+    yield from form_faults(top)
     for path, text in made_pages(top).items():
         if text != read(top, path):
             yield f"{path}: a part is not what it is made of; run scripts/manuals"

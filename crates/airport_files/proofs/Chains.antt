@@ -1,14 +1,15 @@
--- The walk key by key ends at the first fault of the keys, or has their values.
-use Rattle.std.proofs.Common.{◌≡◌, ℕ, ◌+◌, map, List, [], ◌∷◌, ◌++◌, Bool, true, false, ◌&&◌, if◌then◌else◌, Option, None, Some, is_some, option_and_then, Result, Ok, Err, refl, sym, ◌∙◌, ap}
-use Rattle.std.specs.Prelude.{codes, filter_map}
-use Rattle.std.specs.List.{cons_option, list_all}
-use Rattle.std.specs.Option.{option_or, unwrap_or}
+-- The walk key by key, with the texts of its keys, says what the file says.
+use Rattle.std.proofs.Common.{◌≡◌, ℕ, ◌+◌, List, [], ◌∷◌, ◌++◌, Bool, true, false, if◌then◌else◌, Option, None, Some, option_and_then, option_map, Result, Ok, Err, codes, decimal, refl, sym, ◌∙◌, ap, append_assoc}
+use Rattle.std.specs.Prelude.{ok_or, unwrap_or}
 use Rattle.apron_base.specs.ResultChain.{◌>>=◌}
-use Rattle.toml.specs.Data.{Data, Members, Items, get_member, as_table, table, array, item, no_items, no_members}
-use Rattle.apron_base.specs.declared.letter.Letter.TheVariants as letter
+use Rattle.apron_dates.specs.declared.day.Date.{Date}
+use Rattle.csv_records.specs.Tables.{each_from}
+use Rattle.toml.specs.Data.{Data, Members, Items, get_member, as_table, table, array, item, no_items}
+use Rattle.apron_rules.specs.declared.parts.AirportParts.{AirportParts}
 use Rattle.apron_rules.specs.declared.parts.Frontage.{Frontage}
 use Rattle.apron_rules.specs.declared.parts.StandRow.{StandRow}
 use Rattle.apron_rules.specs.declared.parts.PairRow.{PairRow}
+use Rattle.apron_rules.specs.declared.parts.TypeRow.{TypeRow}
 use Rattle.airport_files.specs.declared.keys.HeadKey.TheVariants.{Station, FirstDay, Days, TaxiIn, Tow}
 use Rattle.airport_files.specs.declared.keys.FrontageKey.TheVariants as frontage
 use Rattle.airport_files.specs.declared.keys.StandKey.TheVariants as stand
@@ -17,69 +18,90 @@ use Rattle.airport_files.specs.declared.keys.FileKey.{FileKey}
 use Rattle.airport_files.specs.declared.keys.FileKey.TheVariants as key
 use Rattle.airport_files.specs.declared.keys.WalkFault.{WalkFault}
 use Rattle.airport_files.specs.declared.keys.WalkFault.TheVariants.{Wrong}
+use Rattle.airport_files.specs.declared.read.FileFault.{FileFault}
+use Rattle.airport_files.specs.declared.read.FileFault.TheVariants.{MissingKey, WrongKind}
 use Rattle.airport_files.specs.declared.rows.AirportTable.{AirportTable}
 use Rattle.airport_files.specs.declared.layout.Layout.{Layout}
-use Rattle.airport_files.specs.Forms.{toml_number, toml_number_list, station_of, date_of, name_of, letter_of, items_of, is_in_form, all_of, in_form, at_key, in_form_if_there, if_there}
-use Rattle.airport_files.specs.Layout.{keys_from, tables_in, array_keys, airport_table, file_values, layout_of}
-use Rattle.airport_files.specs.Keys.{KeyForm, needed, optional, fault_at, first_fault, unless_fault, read_in, value_or}
-use Rattle.airport_files.specs.Rows.{head_held, head_in, head_keys, head_values, no_date, frontage_held, frontage_in, frontage_keys, frontage_values, stand_held, stand_in, stand_keys, stand_values, pair_held, pair_in, pair_keys, pair_values}
-use Rattle.airport_files.specs.Walk.{head_number, head_value, head_table, toml_numbers, numbers_value, numbers_at, frontage_name, frontage_objects, frontage_value, stand_row_name, stand_row_number, stand_letter, stand_half, stand_value, pair_name, pair_letter, pair_value, walk_rows_from, are_tables, rows_value, frontages_of, stands_of, pairs_of}
+use Rattle.airport_files.specs.Forms.{date_of, items_in, letter_of, name_of, station_of, tables_of, toml_number, toml_number_list}
+use Rattle.airport_files.specs.Keys.{form_if_there, needed, optional, row_start, rows_at}
+use Rattle.airport_files.specs.Named.{airport_parts, file_fault, named}
+use Rattle.airport_files.specs.Rows.{frontage_at, pair_at, parts_of, stand_at}
+use Rattle.airport_files.specs.Walk.{are_tables, at_key, frontage_in, frontage_objects, frontage_value, frontages_of, head_in, head_value, if_there, in_form, in_form_if_there, layout_of, numbers_at, numbers_value, pair_in, pair_value, pairs_of, rows_value, stand_half, stand_in, stand_value, stands_of, toml_numbers, walk_rows_from}
+use Rattle.airport_files.specs.Words.{key_text}
 
--- the values or the fault of one part, and then of the others
-part-step : {A B : Type 0} (read : Result A WalkFault) (fault : Option WalkFault) (values : A) (next : A → Result B WalkFault) (later : Option WalkFault) (made : B) → read ≡ unless_fault fault values → next values ≡ unless_fault later made
-    → (read >>= next) ≡ unless_fault (option_or fault later) made
-part-step read None values next later made e more = rw e more
-part-step read (Some at) values next later made e more = rw e
+-- what is made of what the walk reads, or its fault with the text of the key
+abbrev said : {A B : Type 0} → (A → B) → Result A WalkFault → Result B FileFault
+said made (Ok x) = Ok (made x)
+said made (Err fault) = Err (file_fault fault)
 
--- the last part
-part-last : {A B : Type 0} (read : Result A WalkFault) (fault : Option WalkFault) (values : A) (last : A → B) → read ≡ unless_fault fault values → (read >>= (λ x. Ok (last x))) ≡ unless_fault fault (last values)
-part-last read None values last e = rw e
-part-last read (Some at) values last e = rw e
+-- what the walk reads, or its fault with the text of the key
+abbrev told : {A : Type 0} → Result A WalkFault → Result A FileFault
+told read = said (λ x. x) read
 
-or_or : (first second third : Option WalkFault) → option_or (option_or first second) third ≡ option_or first (option_or second third)
-or_or None second third = refl
-or_or (Some at) second third = refl
+-- a step of the walk, and the same step of the file
+step : {A B C : Type 0} (made : B → C) (read : Result A WalkFault) (says : Result A FileFault) (next : A → Result B WalkFault) (more : A → Result C FileFault) → told read ≡ says → ((x : A) → said made (next x) ≡ more x)
+    → said made (read >>= next) ≡ (says >>= more)
+step made (Ok x) says next more e rest = rw (← e) (rest x)
+step made (Err fault) says next more e rest = rw (← e) refl
 
--- the first fault of two lists of keys
-first_fault-append : (keys more : List KeyForm) → first_fault (keys ++ more) ≡ option_or (first_fault keys) (first_fault more)
-first_fault-append [] more = refl
-first_fault-append (key ∷ keys) more = ap (option_or (fault_at key)) (first_fault-append keys more) ∙ sym (or_or (fault_at key) (first_fault keys) (first_fault more))
+-- the same of a walk within a longer one
+inner-step : {A B C D : Type 0} (made : C → D) (read : Result A WalkFault) (says : Result A FileFault) (next : A → Result B WalkFault) (later : B → Result C WalkFault) (more : A → Result D FileFault) → told read ≡ says
+    → ((x : A) → said made (next x >>= later) ≡ more x) → said made ((read >>= next) >>= later) ≡ (says >>= more)
+inner-step made (Ok x) says next later more e rest = rw (← e) (rest x)
+inner-step made (Err fault) says next later more e rest = rw (← e) refl
 
-in_form-is : {A : Type 0} (at : FileKey) (found : Option A) (other : A) → in_form at found ≡ unless_fault (if is_some found then None else Some (Wrong at)) (unwrap_or found other)
-in_form-is at None other = refl
-in_form-is at (Some x) other = refl
+form-said : {A : Type 0} (at : FileKey) (found : Option A) → told (in_form at found) ≡ ok_or found (WrongKind (key_text at))
+form-said at None = refl
+form-said at (Some x) = refl
+
+key-said : {A : Type 0} (form : Data → Option A) (at : FileKey) (held : Option Data) → told (at_key form at held) ≡ (ok_or held (MissingKey (key_text at)) >>= (λ value. ok_or (form value) (WrongKind (key_text at))))
+key-said form at None = refl
+key-said form at (Some d) = form-said at (form d)
 
 -- what a needed key says
-at_key-is : {A : Type 0} (form : Data → Option A) (at : FileKey) (held : Option Data) (other : A) → at_key form at held ≡ unless_fault (fault_at (needed form at held)) (value_or other form held)
-at_key-is form at None other = refl
-at_key-is form at (Some d) other = in_form-is at (form d) other
+needed-said : {A : Type 0} (form : Data → Option A) (at : FileKey) (start word : List ℕ) (ms : Members) → key_text at ≡ start ++ word → told (at_key form at (get_member word ms)) ≡ needed form start ms word
+needed-said form at start word ms e =
+    key-said form at (get_member word ms) ∙ ap (λ (text : List ℕ). ok_or (get_member word ms) (MissingKey text) >>= (λ value. ok_or (form value) (WrongKind text))) e
 
-needed-step : {A B : Type 0} (form : Data → Option A) (at : FileKey) (held : Option Data) (other : A) (next : A → Result B WalkFault) (later : Option WalkFault) (made : B) → next (value_or other form held) ≡ unless_fault later made
-    → (at_key form at held >>= next) ≡ unless_fault (option_or (fault_at (needed form at held)) later) made
-needed-step form at held other next later made more = part-step (at_key form at held) (fault_at (needed form at held)) (value_or other form held) next later made (at_key-is form at held other) more
+there-said : {A : Type 0} (at : FileKey) (found : Option A) → told (in_form_if_there at found) ≡ ok_or (option_map Some found) (WrongKind (key_text at))
+there-said at None = refl
+there-said at (Some x) = refl
 
-in_form_if_there-is : {A : Type 0} (at : FileKey) (found : Option A) → in_form_if_there at found ≡ unless_fault (if is_some found then None else Some (Wrong at)) found
-in_form_if_there-is at None = refl
-in_form_if_there-is at (Some x) = refl
+if_there-said : {A : Type 0} (form : Data → Option A) (at : FileKey) (held : Option Data) → told (if_there form at held) ≡ ok_or (form_if_there form held) (WrongKind (key_text at))
+if_there-said form at None = refl
+if_there-said form at (Some d) = there-said at (form d)
 
 -- what a key says that may be missing
-if_there-is : {A : Type 0} (form : Data → Option A) (at : FileKey) (held : Option Data) → if_there form at held ≡ unless_fault (fault_at (optional form at held)) (option_and_then form held)
-if_there-is form at None = refl
-if_there-is form at (Some d) = in_form_if_there-is at (form d)
+optional-said : {A : Type 0} (form : Data → Option A) (at : FileKey) (start word : List ℕ) (ms : Members) → key_text at ≡ start ++ word → told (if_there form at (get_member word ms)) ≡ optional form start ms word
+optional-said form at start word ms e =
+    if_there-said form at (get_member word ms) ∙ ap (λ (text : List ℕ). ok_or (form_if_there form (get_member word ms)) (WrongKind text)) e
+
+-- the text of a key of a row
+row_text : (before : List ℕ) (k : ℕ) (word : List ℕ) → before ++ (decimal k ++ (codes "." ++ word)) ≡ before ++ ((decimal k ++ codes ".") ++ word)
+row_text before k word = ap (λ (text : List ℕ). before ++ text) (sym (append_assoc (decimal k) (codes ".") word))
+
+-- a needed key, and then the others
+needed-step : {A B C : Type 0} (made : B → C) (form : Data → Option A) (at : FileKey) (start word : List ℕ) (ms : Members) (next : A → Result B WalkFault) (more : A → Result C FileFault) → key_text at ≡ start ++ word
+    → ((x : A) → said made (next x) ≡ more x) → said made (at_key form at (get_member word ms) >>= next) ≡ (needed form start ms word >>= more)
+needed-step made form at start word ms next more e rest = step made (at_key form at (get_member word ms)) (needed form start ms word) next more (needed-said form at start word ms e) rest
+
+-- the same of a walk within a longer one
+needed-inner : {A B C D : Type 0} (made : C → D) (form : Data → Option A) (at : FileKey) (start word : List ℕ) (ms : Members) (next : A → Result B WalkFault) (later : B → Result C WalkFault) (more : A → Result D FileFault) → key_text at ≡ start ++ word
+    → ((x : A) → said made (next x >>= later) ≡ more x) → said made ((at_key form at (get_member word ms) >>= next) >>= later) ≡ (needed form start ms word >>= more)
+needed-inner made form at start word ms next later more e rest = inner-step made (at_key form at (get_member word ms)) (needed form start ms word) next later more (needed-said form at start word ms e) rest
 
 -- an array of numbers, number after number
-numbers_all : (at : FileKey) (found : Option ℕ) (all : Bool) (rest : List ℕ) → (in_form at found >>= (λ first. in_form at (if all then Some rest else None) >>= (λ more. Ok (first ∷ more))))
-    ≡ in_form at (if is_some found && all then Some (cons_option found rest) else None)
-numbers_all at None all rest = refl
-numbers_all at (Some n) true rest = refl
-numbers_all at (Some n) false rest = refl
+numbers_all : (at : FileKey) (found : Option ℕ) (more : Option (List ℕ)) → (in_form at found >>= (λ first. in_form at more >>= (λ rest. Ok (first ∷ rest))))
+    ≡ in_form at (option_and_then (λ first. option_and_then (λ rest. Some (first ∷ rest)) more) found)
+numbers_all at None more = refl
+numbers_all at (Some n) None = refl
+numbers_all at (Some n) (Some rest) = refl
 
-numbers_from-is : (at : FileKey) (ds : Items) → toml_numbers at ds ≡ in_form at (all_of toml_number ds)
+numbers_from-is : (at : FileKey) (ds : Items) → toml_numbers at ds ≡ in_form at (items_in toml_number ds)
 unfolding toml_numbers
 numbers_from-is at no_items = refl
 numbers_from-is at (item d ds) =
-    ap (λ (rest : Result (List ℕ) WalkFault). in_form at (toml_number d) >>= (λ first. rest >>= (λ more. Ok (first ∷ more)))) (numbers_from-is at ds)
-    ∙ numbers_all at (toml_number d) (list_all (is_in_form toml_number) (items_of ds)) (filter_map toml_number (items_of ds))
+    ap (λ (rest : Result (List ℕ) WalkFault). in_form at (toml_number d) >>= (λ first. rest >>= (λ more. Ok (first ∷ more)))) (numbers_from-is at ds) ∙ numbers_all at (toml_number d) (items_in toml_number ds)
 
 numbers_value-is : (at : FileKey) (d : Data) → numbers_value at d ≡ in_form at (toml_number_list d)
 numbers_value-is at (array ds) = numbers_from-is at ds
@@ -89,169 +111,134 @@ numbers_at-is : (at : FileKey) (held : Option Data) → numbers_at at held ≡ a
 numbers_at-is at None = refl
 numbers_at-is at (Some d) = numbers_value-is at d
 
--- the keys of the table `airport`, one after the other
-unfoldable pub head_chain : Members → Result AirportTable WalkFault
-head_chain ms = do
-  station ← at_key station_of (key.Head Station) (head_held ms Station)
-  first ← at_key date_of (key.Head FirstDay) (head_held ms FirstDay)
-  days ← head_number ms Days
-  taxi_in ← head_number ms TaxiIn
-  tow ← head_number ms Tow
-  Ok (record { station = station; first = first; days = days; taxi_in = taxi_in; tow = tow })
-
-pub head_in-chain : (ms : Members) → head_in ms ≡ head_chain ms
-unfolding head_in head_chain
-head_in-chain ms =
-    sym (needed-step station_of (key.Head Station) (head_held ms Station) [] _ _ (head_values ms)
-    (needed-step date_of (key.Head FirstDay) (head_held ms FirstDay) no_date _ _ (head_values ms)
-    (needed-step toml_number (key.Head Days) (head_held ms Days) 0 _ _ (head_values ms)
-    (needed-step toml_number (key.Head TaxiIn) (head_held ms TaxiIn) 0 _ _ (head_values ms)
-    (needed-step toml_number (key.Head Tow) (head_held ms Tow) 0 _ None (head_values ms) refl)))))
-
--- the keys of a frontage
-unfoldable pub frontage_chain : ℕ → Members → Result Frontage WalkFault
-frontage_chain k ms = do
-  name ← frontage_name k ms
-  objects ← frontage_objects k ms
-  Ok (record { name = name; objects = objects })
-
-pub frontage_in-chain : (k : ℕ) (ms : Members) → frontage_in k ms ≡ frontage_chain k ms
-unfolding frontage_in frontage_chain
-frontage_in-chain k ms =
+objects-said : (k : ℕ) (ms : Members) → told (frontage_objects k ms) ≡ needed toml_number_list (row_start (codes "frontage") k) ms (codes "objects")
+objects-said k ms =
     let at = key.Frontage k frontage.Objects in
-    let held = frontage_held ms frontage.Objects in
-    sym (needed-step name_of (key.Frontage k frontage.Name) (frontage_held ms frontage.Name) [] _ _ (frontage_values ms)
-    (part-step (frontage_objects k ms) (fault_at (needed toml_number_list at held)) (value_or [] toml_number_list held) _ None (frontage_values ms) (numbers_at-is at held ∙ at_key-is toml_number_list at held []) refl))
+    ap (λ (read : Result (List ℕ) WalkFault). told read) (numbers_at-is at (get_member (codes "objects") ms))
+    ∙ needed-said toml_number_list at (row_start (codes "frontage") k) (codes "objects") ms (row_text (codes "frontage ") k (codes "objects"))
 
--- the keys of a stand
-unfoldable pub stand_chain : ℕ → Members → Result StandRow WalkFault
-stand_chain k ms = do
-  name ← stand_row_name k ms stand.Name
-  frontage ← stand_row_name k ms stand.Frontage
-  centre ← stand_row_number k ms stand.Centre
-  letter ← stand_letter k ms
-  buffer ← stand_row_number k ms stand.Buffer
-  half_of ← stand_half k ms
-  Ok (record { name = name; frontage = frontage; centre = centre; letter = letter; buffer = buffer; half_of = half_of })
+-- what a frontage says
+frontage-said : (k : ℕ) (ms : Members) → told (frontage_value k (table ms)) ≡ frontage_at (row_start (codes "frontage") k) ms
+unfolding frontage_in frontage_at
+frontage-said k ms =
+    let start = row_start (codes "frontage") k in
+    needed-step (λ (row : Frontage). row) name_of (key.Frontage k frontage.Name) start (codes "name") ms _ _ (row_text (codes "frontage ") k (codes "name")) (λ name.
+    step (λ (row : Frontage). row) (frontage_objects k ms) (needed toml_number_list start ms (codes "objects")) _ _ (objects-said k ms) (λ objects. refl))
 
-pub stand_in-chain : (k : ℕ) (ms : Members) → stand_in k ms ≡ stand_chain k ms
-unfolding stand_in stand_chain
-stand_in-chain k ms =
-    sym (needed-step name_of (key.Stand k stand.Name) (stand_held ms stand.Name) [] _ _ (stand_values ms)
-    (needed-step name_of (key.Stand k stand.Frontage) (stand_held ms stand.Frontage) [] _ _ (stand_values ms)
-    (needed-step toml_number (key.Stand k stand.Centre) (stand_held ms stand.Centre) 0 _ _ (stand_values ms)
-    (needed-step letter_of (key.Stand k stand.Letter) (stand_held ms stand.Letter) letter.A _ _ (stand_values ms)
-    (needed-step toml_number (key.Stand k stand.Buffer) (stand_held ms stand.Buffer) 0 _ _ (stand_values ms)
-    (part-step (stand_half k ms) (fault_at (optional name_of (key.Stand k stand.HalfOf) (stand_held ms stand.HalfOf))) (option_and_then name_of (stand_held ms stand.HalfOf)) _ None (stand_values ms)
-    (if_there-is name_of (key.Stand k stand.HalfOf) (stand_held ms stand.HalfOf)) refl))))))
+-- what a stand says
+stand-said : (k : ℕ) (ms : Members) → told (stand_value k (table ms)) ≡ stand_at (row_start (codes "stand") k) ms
+unfolding stand_in stand_at
+stand-said k ms =
+    let start = row_start (codes "stand") k in
+    let same = λ (row : StandRow). row in
+    let text = row_text (codes "stand ") k in
+    needed-step same name_of (key.Stand k stand.Name) start (codes "name") ms _ _ (text (codes "name")) (λ name.
+    needed-step same name_of (key.Stand k stand.Frontage) start (codes "frontage") ms _ _ (text (codes "frontage")) (λ on.
+    needed-step same toml_number (key.Stand k stand.Centre) start (codes "centre") ms _ _ (text (codes "centre")) (λ centre.
+    needed-step same letter_of (key.Stand k stand.Letter) start (codes "letter") ms _ _ (text (codes "letter")) (λ letter.
+    needed-step same toml_number (key.Stand k stand.Buffer) start (codes "buffer") ms _ _ (text (codes "buffer")) (λ buffer.
+    step same (stand_half k ms) (optional name_of start ms (codes "half_of")) _ _ (optional-said name_of (key.Stand k stand.HalfOf) start (codes "half_of") ms (text (codes "half_of"))) (λ half. refl))))))
 
--- the keys of a pair restriction
-unfoldable pub pair_chain : ℕ → Members → Result PairRow WalkFault
-pair_chain k ms = do
-  a ← pair_name k ms pair.A
-  la ← pair_letter k ms pair.La
-  b ← pair_name k ms pair.B
-  lb ← pair_letter k ms pair.Lb
-  Ok (record { a = a; la = la; b = b; lb = lb })
+-- what a pair restriction says
+pair-said : (k : ℕ) (ms : Members) → told (pair_value k (table ms)) ≡ pair_at (row_start (codes "pair") k) ms
+unfolding pair_in pair_at
+pair-said k ms =
+    let start = row_start (codes "pair") k in
+    let same = λ (row : PairRow). row in
+    let text = row_text (codes "pair ") k in
+    needed-step same name_of (key.Pair k pair.A) start (codes "a") ms _ _ (text (codes "a")) (λ a.
+    needed-step same letter_of (key.Pair k pair.La) start (codes "la") ms _ _ (text (codes "la")) (λ la.
+    needed-step same name_of (key.Pair k pair.B) start (codes "b") ms _ _ (text (codes "b")) (λ b.
+    needed-step same letter_of (key.Pair k pair.Lb) start (codes "lb") ms _ _ (text (codes "lb")) (λ lb. refl))))
 
-pub pair_in-chain : (k : ℕ) (ms : Members) → pair_in k ms ≡ pair_chain k ms
-unfolding pair_in pair_chain
-pair_in-chain k ms =
-    sym (needed-step name_of (key.Pair k pair.A) (pair_held ms pair.A) [] _ _ (pair_values ms)
-    (needed-step letter_of (key.Pair k pair.La) (pair_held ms pair.La) letter.A _ _ (pair_values ms)
-    (needed-step name_of (key.Pair k pair.B) (pair_held ms pair.B) [] _ _ (pair_values ms)
-    (needed-step letter_of (key.Pair k pair.Lb) (pair_held ms pair.Lb) letter.A _ None (pair_values ms) refl))))
+-- the tables among some items
+abbrev tables_among : Items → List Members
+tables_among no_items = []
+tables_among (item (table ms) ds) = ms ∷ tables_among ds
+tables_among (item _ ds) = tables_among ds
 
--- a step over the rows of an array
-rows-more : {A : Type 0} (read : Result A WalkFault) (fault : Option WalkFault) (value : A) (rest : Result (List A) WalkFault) (later : Option WalkFault) (values : List A) → read ≡ unless_fault fault value → rest ≡ unless_fault later values
-    → (read >>= (λ first. rest >>= (λ more. Ok (first ∷ more)))) ≡ unless_fault (option_or fault later) (value ∷ values)
-rows-more read fault value rest later values e all =
-    part-step read fault value (λ first. rest >>= (λ more. Ok (first ∷ more))) later (value ∷ values) e (part-last rest later values (λ more. value ∷ more) all)
+one_more : (ms : Members) (all : Bool) (tables : List Members) → option_and_then (λ rest. Some (ms ∷ rest)) (if all then Some tables else None) ≡ (if all then Some (ms ∷ tables) else None)
+one_more ms true tables = refl
+one_more ms false tables = refl
+
+tables-are : (ds : Items) → items_in as_table ds ≡ (if are_tables ds then Some (tables_among ds) else None)
+tables-are no_items = refl
+tables-are (item (table ms) ds) = ap (option_and_then (λ rest. Some (ms ∷ rest))) (tables-are ds) ∙ one_more ms (are_tables ds) (tables_among ds)
+tables-are (item _ ds) = refl
 
 -- what the rows of an array of tables say, one after the other
-rows_from-is : {A : Type 0} (read : ℕ → Data → Result A WalkFault) (keys : ℕ → Members → List KeyForm) (values : Members → A) → ((k : ℕ) (ms : Members) → read k (table ms) ≡ read_in (keys k ms) (values ms))
-    → (k : ℕ) (ds : Items) → are_tables ds ≡ true → walk_rows_from read k ds ≡ read_in (keys_from keys k (filter_map as_table (items_of ds))) (map values (filter_map as_table (items_of ds)))
-unfolding walk_rows_from
-rows_from-is read keys values reads k no_items all = refl
-rows_from-is read keys values reads k (item (table ms) ds) all =
-    let rest = filter_map as_table (items_of ds) in
-    rows-more (read k (table ms)) (first_fault (keys k ms)) (values ms) (walk_rows_from read (k + 1) ds) (first_fault (keys_from keys (k + 1) rest)) (map values rest) (reads k ms) (rows_from-is read keys values reads (k + 1) ds all)
-    ∙ ap (λ (fault : Option WalkFault). unless_fault fault (values ms ∷ map values rest)) (sym (first_fault-append (keys k ms) (keys_from keys (k + 1) rest)))
-rows_from-is read keys values reads k (item _ ds) all = absurd (cc)
+rows_from-said : {A : Type 0} (read : ℕ → Data → Result A WalkFault) (says : ℕ → Members → Result A FileFault) → ((k : ℕ) (ms : Members) → told (read k (table ms)) ≡ says k ms)
+    → (k : ℕ) (ds : Items) → are_tables ds ≡ true → told (walk_rows_from read k ds) ≡ each_from says k (tables_among ds)
+unfolding walk_rows_from each_from
+rows_from-said read says reads k no_items all = refl
+rows_from-said {A} read says reads k (item (table ms) ds) all =
+    let same = λ (rows : List A). rows in
+    step same (read k (table ms)) (says k ms) _ _ (reads k ms) (λ first.
+    step same (walk_rows_from read (k + 1) ds) (each_from says (k + 1) (tables_among ds)) _ _ (rows_from-said read says reads (k + 1) ds all) (λ more. refl))
+rows_from-said read says reads k (item _ ds) all = absurd (cc)
 
-tables_are : (ds : Items) → are_tables ds ≡ list_all (is_in_form as_table) (items_of ds)
-tables_are no_items = refl
-tables_are (item (table ms) ds) = tables_are ds
-tables_are (item _ ds) = refl
-
-rows_in-is : {A : Type 0} (read : ℕ → Data → Result A WalkFault) (at : FileKey) (ds : Items) (all : Bool) (later : List Members → Option WalkFault) (values : Members → A) (tables : List Members) → later [] ≡ None
-    → (all ≡ true → walk_rows_from read 1 ds ≡ unless_fault (later tables) (map values tables))
-    → (if all then walk_rows_from read 1 ds else Err (Wrong at))
-    ≡ unless_fault (option_or (if is_some (if all then Some tables else None) then None else Some (Wrong at)) (later (unwrap_or (if all then Some tables else None) []))) (map values (unwrap_or (if all then Some tables else None) []))
-rows_in-is read at ds true later values tables none rows = rows refl
-rows_in-is read at ds false later values tables none rows = refl
+rows_by : {A : Type 0} (all : Bool) (at : FileKey) (read : Result (List A) WalkFault) (says : List Members → Result (List A) FileFault) (tables : List Members) → (all ≡ true → told read ≡ says tables)
+    → told (if all then read else Err (Wrong at)) ≡ (ok_or (option_map Some (if all then Some tables else None)) (WrongKind (key_text at)) >>= (λ found. says (unwrap_or found [])))
+rows_by true at read says tables rows = rows refl
+rows_by false at read says tables rows = refl
 
 -- what an array of tables says, which may be missing
-rows_value-is : {A : Type 0} (read : ℕ → Data → Result A WalkFault) (keys : ℕ → Members → List KeyForm) (values : Members → A) → ((k : ℕ) (ms : Members) → read k (table ms) ≡ read_in (keys k ms) (values ms))
-    → (at : FileKey) (held : Option Data) → rows_value read at held ≡ read_in (array_keys at keys held) (map values (tables_in held))
-rows_value-is read keys values reads at None = refl
-rows_value-is {A} read keys values reads at (Some (array ds)) =
-    let tables = filter_map as_table (items_of ds) in
-    let later : List Members → Option WalkFault = λ found. first_fault (keys_from keys 1 found) in
-    let all : Bool = list_all (is_in_form as_table) (items_of ds) in
-    ap (λ (b : Bool). if b then walk_rows_from read 1 ds else Err (Wrong at)) (tables_are ds)
-    ∙ rows_in-is read at ds all later values tables refl (λ yes. rows_from-is read keys values reads 1 ds (tables_are ds ∙ yes))
-rows_value-is read keys values reads at (Some _) = refl
+rows_value-said : {A : Type 0} (read : ℕ → Data → Result A WalkFault) (says : ℕ → Members → Result A FileFault) → ((k : ℕ) (ms : Members) → told (read k (table ms)) ≡ says k ms)
+    → (at : FileKey) (held : Option Data) → told (rows_value read at held) ≡ (ok_or (form_if_there tables_of held) (WrongKind (key_text at)) >>= (λ tables. each_from says 1 (unwrap_or tables [])))
+unfolding each_from
+rows_value-said read says reads at None = refl
+rows_value-said read says reads at (Some (array ds)) =
+    rows_by (are_tables ds) at (walk_rows_from read 1 ds) (each_from says 1) (tables_among ds) (rows_from-said read says reads 1 ds)
+    ∙ ap (λ (found : Option (List Members)). ok_or (option_map Some found) (WrongKind (key_text at)) >>= (λ tables. each_from says 1 (unwrap_or tables []))) (sym (tables-are ds))
+rows_value-said read says reads at (Some _) = refl
 
--- what the table `airport` says
-head_value-is : (held : Option Data) → head_value held ≡ read_in (needed as_table key.Airport held ∷ head_keys (value_or no_members as_table held)) (head_values (value_or no_members as_table held))
+frontages-said : (ms : Members) → told (frontages_of ms) ≡ rows_at frontage_at ms (codes "frontage")
+frontages-said ms = rows_value-said frontage_value (λ k. frontage_at (row_start (codes "frontage") k)) frontage-said key.Frontages (get_member (codes "frontage") ms)
+
+stands-said : (ms : Members) → told (stands_of ms) ≡ rows_at stand_at ms (codes "stand")
+stands-said ms = rows_value-said stand_value (λ k. stand_at (row_start (codes "stand") k)) stand-said key.Stands (get_member (codes "stand") ms)
+
+pairs-said : (ms : Members) → told (pairs_of ms) ≡ rows_at pair_at ms (codes "pair")
+pairs-said ms = rows_value-said pair_value (λ k. pair_at (row_start (codes "pair") k)) pair-said key.Pairs (get_member (codes "pair") ms)
+
+-- the keys of the table `airport`, and what comes after them
+abbrev airport_then : {C : Type 0} → (List ℕ → Date → ℕ → ℕ → ℕ → Result C FileFault) → Members → Result C FileFault
+airport_then more ms = do
+  station ← needed station_of (codes "airport.") ms (codes "station")
+  first ← needed date_of (codes "airport.") ms (codes "first_day")
+  days ← needed toml_number (codes "airport.") ms (codes "days")
+  taxi_in ← needed toml_number (codes "airport.") ms (codes "taxi_in")
+  tow ← needed toml_number (codes "airport.") ms (codes "tow")
+  more station first days taxi_in tow
+
+-- what the table `airport` says, and then the rest of the file
+airport-said : {B C : Type 0} (made : B → C) (held : Option Data) (next : AirportTable → Result B WalkFault) (more : List ℕ → Date → ℕ → ℕ → ℕ → Result C FileFault)
+    → ((head : AirportTable) → said made (next head) ≡ more head.station head.first head.days head.taxi_in head.tow)
+    → said made (head_value held >>= next) ≡ ((ok_or held (MissingKey (codes "airport")) >>= (λ value. ok_or (as_table value) (WrongKind (codes "airport")))) >>= airport_then more)
 unfolding head_in
-head_value-is None = refl
-head_value-is (Some (table ms)) = refl
-head_value-is (Some _) = refl
+airport-said made None next more rest = refl
+airport-said made (Some (table ms)) next more rest =
+    let start = codes "airport." in
+    needed-inner made station_of (key.Head Station) start (codes "station") ms _ next _ refl (λ station.
+    needed-inner made date_of (key.Head FirstDay) start (codes "first_day") ms _ next _ refl (λ first.
+    needed-inner made toml_number (key.Head Days) start (codes "days") ms _ next _ refl (λ days.
+    needed-inner made toml_number (key.Head TaxiIn) start (codes "taxi_in") ms _ next _ refl (λ taxi_in.
+    needed-inner made toml_number (key.Head Tow) start (codes "tow") ms _ next _ refl (λ tow. rest (record { station = station; first = first; days = days; taxi_in = taxi_in; tow = tow }))))))
+airport-said made (Some _) next more rest = refl
 
-frontage_reads : (k : ℕ) (ms : Members) → frontage_value k (table ms) ≡ read_in (frontage_keys k ms) (frontage_values ms)
-unfolding frontage_in
-frontage_reads k ms = refl
+-- what the file says is what the walk reads
+parts-said : (ms : Members) → said airport_parts (layout_of ms) ≡ parts_of ms
+unfolding layout_of parts_of
+parts-said ms =
+    airport-said airport_parts (get_member (codes "airport") ms) _ _ (λ head.
+    step airport_parts (frontages_of ms) (rows_at frontage_at ms (codes "frontage")) _ _ (frontages-said ms) (λ frontages.
+    step airport_parts (stands_of ms) (rows_at stand_at ms (codes "stand")) _ _ (stands-said ms) (λ stands.
+    step airport_parts (pairs_of ms) (rows_at pair_at ms (codes "pair")) _ _ (pairs-said ms) (λ pairs. refl))))
 
-stand_reads : (k : ℕ) (ms : Members) → stand_value k (table ms) ≡ read_in (stand_keys k ms) (stand_values ms)
-unfolding stand_in
-stand_reads k ms = refl
+then_said : {C : Type 0} (read : Result Layout WalkFault) (next : (List TypeRow → AirportParts) → Result C FileFault) → (said airport_parts read >>= next) ≡ (named read >>= (λ layout. next (airport_parts layout)))
+then_said (Ok layout) next = refl
+then_said (Err fault) next = refl
 
-pair_reads : (k : ℕ) (ms : Members) → pair_value k (table ms) ≡ read_in (pair_keys k ms) (pair_values ms)
-unfolding pair_in
-pair_reads k ms = refl
-
--- the first fault of four lists of keys
-first_fault-four : (a b c d : List KeyForm) → first_fault (((a ++ b) ++ c) ++ d) ≡ option_or (first_fault a) (option_or (first_fault b) (option_or (first_fault c) (first_fault d)))
-first_fault-four a b c d =
-    first_fault-append ((a ++ b) ++ c) d
-    ∙ (ap (λ (fault : Option WalkFault). option_or fault (first_fault d)) (first_fault-append (a ++ b) c ∙ ap (λ (fault : Option WalkFault). option_or fault (first_fault c)) (first_fault-append a b))
-    ∙ (or_or (option_or (first_fault a) (first_fault b)) (first_fault c) (first_fault d) ∙ or_or (first_fault a) (first_fault b) (option_or (first_fault c) (first_fault d))))
-
--- the parts of a file, one after the other
-unfoldable pub layout_chain : Members → Result Layout WalkFault
-layout_chain ms = do
-  head ← head_table ms
-  frontages ← frontages_of ms
-  stands ← stands_of ms
-  pairs ← pairs_of ms
-  Ok (record { head = head; frontages = frontages; stands = stands; pairs = pairs })
-
-pub layout_of-chain : (ms : Members) → layout_of ms ≡ layout_chain ms
-unfolding layout_of layout_chain
-layout_of-chain ms =
-    let airport = get_member (codes "airport") ms in
-    let frontage = get_member (codes "frontage") ms in
-    let stand = get_member (codes "stand") ms in
-    let pair = get_member (codes "pair") ms in
-    let heads = needed as_table key.Airport airport ∷ head_keys (airport_table ms) in
-    let frontages = array_keys key.Frontages frontage_keys frontage in
-    let stands = array_keys key.Stands stand_keys stand in
-    let pairs = array_keys key.Pairs pair_keys pair in
-    let all = file_values ms in
-    ap (λ (fault : Option WalkFault). unless_fault fault all) (first_fault-four heads frontages stands pairs)
-    ∙ sym (part-step (head_table ms) (first_fault heads) all.head _ (option_or (first_fault frontages) (option_or (first_fault stands) (first_fault pairs))) all (head_value-is airport)
-    (part-step (frontages_of ms) (first_fault frontages) all.frontages _ (option_or (first_fault stands) (first_fault pairs)) all (rows_value-is frontage_value frontage_keys frontage_values frontage_reads key.Frontages frontage)
-    (part-step (stands_of ms) (first_fault stands) all.stands _ (first_fault pairs) all (rows_value-is stand_value stand_keys stand_values stand_reads key.Stands stand)
-    (part-last (pairs_of ms) (first_fault pairs) all.pairs _ (rows_value-is pair_value pair_keys pair_values pair_reads key.Pairs pair)))))
+-- the same with what comes after it
+pub parts-then : {C : Type 0} (ms : Members) (next : (List TypeRow → AirportParts) → Result C FileFault) → (parts_of ms >>= next) ≡ (named (layout_of ms) >>= (λ layout. next (airport_parts layout)))
+parts-then ms next = ap (λ (parts : Result (List TypeRow → AirportParts) FileFault). parts >>= next) (sym (parts-said ms)) ∙ then_said (layout_of ms) next

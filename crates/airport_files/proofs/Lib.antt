@@ -4,4 +4,4 @@ pub mod Meanings
 pub mod Memories
 pub mod NumberWalk
 pub mod RowWalk
-pub mod TableWalk
+pub mod TypePlaces

@@ -1,26 +1,23 @@
 -- What files mean is never a lack of memory.
-use Rattle.std.proofs.Common.{◌≡◌, ◌≢◌, ℕ, ◌+◌, Bool, true, false, List, [], ◌∷◌, if◌then◌else◌, Option, None, Some, option_map, Result, Ok, Err, refl, ap}
+use Rattle.std.proofs.Common.{◌≡◌, ◌≢◌, ℕ, ◌+◌, List, [], ◌∷◌, ◌++◌, codes, ok_or, Option, None, Some, option_map, Result, Ok, Err, ap}
 use Rattle.std.specs.Option.{option_or}
-use Rattle.toml.specs.Data.{Data, Members}
+use Rattle.std.specs.Prelude.{unwrap_or}
+use Rattle.std.specs.Result.{result_map_both}
+use Rattle.csv_records.specs.Tables.{each_from, table_in}
+use Rattle.toml.specs.Data.{Data, Members, as_table, get_member}
 use Rattle.apron_rules.specs.declared.parts.AirportParts.{AirportParts}
 use Rattle.apron_rules.specs.declared.parts.TypeRow.{TypeRow}
 use Rattle.apron_rules.specs.declared.refusals.AirportFault.{AirportFault}
 use Rattle.apron_rules.specs.declared.refusals.AirportFault.TheVariants as refused
 use Rattle.apron_rules.specs.Refusals.{airport_fault, later_fault_of, duplicate_of, unknown_of, bad_half_of, limit_of, bad_fold_of, bad_span_of}
-use Rattle.airport_files.specs.declared.keys.WalkFault.{WalkFault}
-use Rattle.airport_files.specs.declared.keys.WalkFault.TheVariants as walk
-use Rattle.airport_files.specs.declared.layout.Layout.{Layout}
-use Rattle.airport_files.specs.declared.types.TableFault.{TableFault}
-use Rattle.airport_files.specs.declared.types.TableFault.TheVariants as rows
 use Rattle.airport_files.specs.declared.read.FileFault.{FileFault}
 use Rattle.airport_files.specs.declared.read.FileFault.TheVariants as file
 use Rattle.airport_files.specs.Document.{document}
-use Rattle.airport_files.specs.Keys.{KeyForm, fault_with, fault_at, first_fault, unless_fault}
-use Rattle.airport_files.specs.Layout.{file_keys, file_values, layout_of}
-use Rattle.airport_files.specs.Table.{in_form as row_in_form, rows_after, type_rows_from as records_from, table_of, table_in}
-use Rattle.airport_files.specs.declared.type_rows.Columns.{Columns}
-use Rattle.airport_files.specs.TypeRows.{columns_of, row_of}
-use Rattle.airport_files.specs.Meaning.{named_layout, layout_of_table, layout_in, types_of_table, types_in, airport_parts, airport_of_parts, unless_refused, meaning}
+use Rattle.airport_files.specs.Forms.{date_of, letter_of, name_of, station_of, tables_of, toml_number, toml_number_list}
+use Rattle.airport_files.specs.Keys.{form_if_there, needed, optional, row_start, rows_at}
+use Rattle.airport_files.specs.Meaning.{types_in, airport_of_parts, unless_refused, meaning}
+use Rattle.airport_files.specs.Rows.{frontage_at, pair_at, parts_of, stand_at}
+use Rattle.airport_files.specs.Types.{types_after}
 
 -- a step, and then the next if it went well
 abbrev after : {A B E : Type 0} → Result A E → (A → Result B E) → Result B E
@@ -31,38 +28,6 @@ never : {A B E : Type 0} (bad : E) (step : Result A E) (next : A → Result B E)
 never bad (Ok x) next h k = k x
 never bad (Err e) next h k = λ p. h (let same : e ≡ bad = cc in ap Err same)
 
--- a reading along the keys that doesn't run out of memory
-abbrev IsTold : {A : Type 0} → Result A WalkFault → Type 0
-IsTold read = read ≢ Err walk.Memory
-
--- a fault that is not a lack of memory, or none
-abbrev IsOfKey : Option WalkFault → Type 0
-IsOfKey fault = fault ≢ Some walk.Memory
-
-key_unless : (good : Bool) (fault : WalkFault) → fault ≢ walk.Memory → IsOfKey (if good then None else Some fault)
-key_unless true fault h = λ p. cc
-key_unless false fault h = λ p. h cc
-
-key_with : (key : KeyForm) (held : Option Data) → IsOfKey (fault_with key held)
-key_with key None = key_unless key.may_be_missing (walk.Missing key.key) (λ p. cc)
-key_with key (Some d) = key_unless (key.is_in_form d) (walk.Wrong key.key) (λ p. cc)
-
-key_or : (first second : Option WalkFault) → IsOfKey first → IsOfKey second → IsOfKey (option_or first second)
-key_or None second h k = k
-key_or (Some fault) second h k = h
-
-of_key : (keys : List KeyForm) → IsOfKey (first_fault keys)
-of_key [] = λ p. cc
-of_key (key ∷ keys) = key_or (fault_at key) (first_fault keys) (key_with key key.held) (of_key keys)
-
-told_unless : {A : Type 0} (fault : Option WalkFault) (values : A) → IsOfKey fault → IsTold (unless_fault fault values)
-told_unless None values h = λ p. cc
-told_unless (Some fault) values h = λ p. h (let same : fault ≡ walk.Memory = cc in ap Some same)
-
-told_layout : (ms : Members) → IsTold (layout_of ms)
-unfolding layout_of
-told_layout ms = told_unless (first_fault (file_keys ms)) (file_values ms) (of_key (file_keys ms))
-
 -- no lack of memory, neither of the files nor of the airport that they make
 abbrev IsSaid : {A : Type 0} → Result A FileFault → Type 0
 IsSaid meant = (meant ≢ Err file.Memory) × (meant ≢ Err (file.Airport refused.Memory))
@@ -70,53 +35,81 @@ IsSaid meant = (meant ≢ Err file.Memory) × (meant ≢ Err (file.Airport refus
 said_next : {A B : Type 0} (step : Result A FileFault) (next : A → Result B FileFault) → IsSaid step → ((x : A) → IsSaid (next x)) → IsSaid (after step next)
 said_next step next h k = (never file.Memory step next h.0 (λ x. (k x).0), never (file.Airport refused.Memory) step next h.1 (λ x. (k x).1))
 
-said_named : (read : Result Layout WalkFault) → IsTold read → IsSaid (named_layout read)
-said_named (Ok layout) h = (λ p. cc, λ p. cc)
-said_named (Err (walk.Missing at)) h = (λ p. cc, λ p. cc)
-said_named (Err (walk.Wrong at)) h = (λ p. cc, λ p. cc)
-said_named (Err walk.Memory) h = absurd (h refl)
+said_ok : {A : Type 0} (x : A) → IsSaid (Ok x)
+said_ok x = (λ p. cc, λ p. cc)
 
-said_document : (held : Option Members) → IsSaid (layout_of_table held)
+-- a value, or the fault that there is none
+said_missing : {A : Type 0} (found : Option A) (text : List ℕ) → IsSaid (ok_or found (file.MissingKey text))
+said_missing None text = (λ p. cc, λ p. cc)
+said_missing (Some x) text = said_ok x
+
+said_wrong : {A : Type 0} (found : Option A) (text : List ℕ) → IsSaid (ok_or found (file.WrongKind text))
+said_wrong None text = (λ p. cc, λ p. cc)
+said_wrong (Some x) text = said_ok x
+
+said_needed : {A : Type 0} (form : Data → Option A) (start : List ℕ) (ms : Members) (word : List ℕ) → IsSaid (needed form start ms word)
+said_needed form start ms word = said_next _ _ (said_missing (get_member word ms) (start ++ word)) (λ value. said_wrong (form value) (start ++ word))
+
+said_optional : {A : Type 0} (form : Data → Option A) (start : List ℕ) (ms : Members) (word : List ℕ) → IsSaid (optional form start ms word)
+said_optional form start ms word = said_wrong (form_if_there form (get_member word ms)) (start ++ word)
+
+said_each : {A X : Type 0} (says : ℕ → X → Result A FileFault) → ((k : ℕ) (x : X) → IsSaid (says k x)) → (k : ℕ) (rows : List X) → IsSaid (each_from says k rows)
+unfolding each_from
+said_each says h k [] = said_ok []
+said_each says h k (x ∷ rest) = said_next _ _ (h k x) (λ first. said_next _ _ (said_each says h (k + 1) rest) (λ more. said_ok _))
+
+said_rows : {A : Type 0} (says : List ℕ → Members → Result A FileFault) → ((start : List ℕ) (ms : Members) → IsSaid (says start ms)) → (ms : Members) (word : List ℕ) → IsSaid (rows_at says ms word)
+said_rows says h ms word =
+    said_next _ _ (said_optional tables_of [] ms word) (λ tables. said_each (λ k. says (row_start word k)) (λ k. h (row_start word k)) 1 (unwrap_or tables []))
+
+said_frontage : (start : List ℕ) (ms : Members) → IsSaid (frontage_at start ms)
+unfolding frontage_at
+said_frontage start ms =
+    said_next _ _ (said_needed name_of start ms (codes "name")) (λ name.
+    said_next _ _ (said_needed toml_number_list start ms (codes "objects")) (λ objects. said_ok _))
+
+said_stand : (start : List ℕ) (ms : Members) → IsSaid (stand_at start ms)
+unfolding stand_at
+said_stand start ms =
+    said_next _ _ (said_needed name_of start ms (codes "name")) (λ name.
+    said_next _ _ (said_needed name_of start ms (codes "frontage")) (λ on.
+    said_next _ _ (said_needed toml_number start ms (codes "centre")) (λ centre.
+    said_next _ _ (said_needed letter_of start ms (codes "letter")) (λ letter.
+    said_next _ _ (said_needed toml_number start ms (codes "buffer")) (λ buffer.
+    said_next _ _ (said_optional name_of start ms (codes "half_of")) (λ half. said_ok _))))))
+
+said_pair : (start : List ℕ) (ms : Members) → IsSaid (pair_at start ms)
+unfolding pair_at
+said_pair start ms =
+    said_next _ _ (said_needed name_of start ms (codes "a")) (λ a.
+    said_next _ _ (said_needed letter_of start ms (codes "la")) (λ la.
+    said_next _ _ (said_needed name_of start ms (codes "b")) (λ b.
+    said_next _ _ (said_needed letter_of start ms (codes "lb")) (λ lb. said_ok _))))
+
+said_parts : (ms : Members) → IsSaid (parts_of ms)
+unfolding parts_of
+said_parts ms =
+    said_next _ _ (said_needed as_table [] ms (codes "airport")) (λ airport.
+    said_next _ _ (said_needed station_of (codes "airport.") airport (codes "station")) (λ station.
+    said_next _ _ (said_needed date_of (codes "airport.") airport (codes "first_day")) (λ first.
+    said_next _ _ (said_needed toml_number (codes "airport.") airport (codes "days")) (λ days.
+    said_next _ _ (said_needed toml_number (codes "airport.") airport (codes "taxi_in")) (λ taxi_in.
+    said_next _ _ (said_needed toml_number (codes "airport.") airport (codes "tow")) (λ tow.
+    said_next _ _ (said_rows frontage_at said_frontage ms (codes "frontage")) (λ frontages.
+    said_next _ _ (said_rows stand_at said_stand ms (codes "stand")) (λ stands.
+    said_next _ _ (said_rows pair_at said_pair ms (codes "pair")) (λ pairs. said_ok _)))))))))
+
+said_document : (found : Option Members) → IsSaid (ok_or found file.NotToml)
 said_document None = (λ p. cc, λ p. cc)
-said_document (Some ms) = said_named (layout_of ms) (told_layout ms)
+said_document (Some ms) = said_ok ms
 
-said_layout : (airport : List ℕ) → IsSaid (layout_in airport)
-unfolding layout_in
-said_layout airport = said_document (document airport)
-
--- a type file whose reading doesn't run out of memory
-abbrev IsListed : {A : Type 0} → Result A TableFault → Type 0
-IsListed read = read ≢ Err rows.Memory
-
-listed_ok : {A : Type 0} (x : A) → IsListed (Ok x)
-listed_ok x = λ p. cc
-
-listed_row : (k : ℕ) (row : Option TypeRow) → IsListed (row_in_form k row)
-listed_row k None = λ p. cc
-listed_row k (Some row) = λ p. cc
-
-listed_rows : (columns : Columns) (k : ℕ) (records : List (List (List ℕ))) → IsListed (records_from columns k records)
-unfolding records_from
-listed_rows columns k [] = λ p. cc
-listed_rows columns k (fields ∷ rest) = never _ _ _ (listed_row k (row_of columns fields)) (λ row. never _ _ _ (listed_rows columns (k + 1) rest) (λ more. listed_ok _))
-
-listed_after : (columns : Option Columns) (records : List (List (List ℕ))) → IsListed (rows_after columns records)
-listed_after None records = λ p. cc
-listed_after (Some columns) records = listed_rows columns 2 records
-
-listed_table : (records : List (List (List ℕ))) → IsListed (table_of records)
-unfolding table_of
-listed_table [] = λ p. cc
-listed_table (header ∷ records) = listed_after (columns_of header) records
-
-said_table : (read : Result (List TypeRow) TableFault) → IsListed read → IsSaid (types_of_table read)
-said_table (Ok types) h = (λ p. cc, λ p. cc)
-said_table (Err (rows.BadRow k)) h = (λ p. cc, λ p. cc)
-said_table (Err rows.Memory) h = absurd (h refl)
+said_table : (read : Result (List TypeRow) ℕ) → IsSaid (result_map_both (λ (rows : List TypeRow). rows) file.BadRow read)
+said_table (Ok types) = said_ok types
+said_table (Err k) = (λ p. cc, λ p. cc)
 
 said_types : (types : List ℕ) → IsSaid (types_in types)
 unfolding types_in
-said_types types = said_table (table_in types) (listed_table _)
+said_types types = said_table (table_in types_after types)
 
 -- a refusal that isn't a lack of memory, or none
 abbrev IsReason : Option AirportFault → Type 0
@@ -145,4 +138,4 @@ said_made parts = said_unless parts (airport_fault parts) (fault-reason parts)
 
 pub meaning-said : (airport types : List ℕ) → (meaning airport types ≢ Err file.Memory) × (meaning airport types ≢ Err (file.Airport refused.Memory))
 unfolding meaning
-meaning-said airport types = said_next _ _ (said_layout airport) (λ layout. said_next _ _ (said_types types) (λ rows. said_made (airport_parts layout rows)))
+meaning-said airport types = said_next _ _ (said_document (document airport)) (λ table. said_next _ _ (said_parts table) (λ parts. said_next _ _ (said_types types) (λ rows. said_made (parts rows))))

@@ -1,7 +1,5 @@
 -- A step of the reading of an array of numbers.
 use Rattle.std.proofs.Common.{◌≡◌, ℕ, ◌+◌, ◌<◌, ◌≤◌, List, [], ◌∷◌, ◌++◌, length, get_or, drop, Some, None, Result, Ok, Err, refl, sym, ap, ◌∙◌, append_assoc}
-use Rattle.std.specs.Prelude.{false, is_err, OnOk}
-use Rattle.std.proofs.lemmas.Bool.{false≢true}
 use Rattle.std.proofs.lemmas.List.{append-nil, drop_all}
 use Rattle.toml.specs.declared.value.Value.{Value}
 use Rattle.toml.specs.Data.{item}
@@ -37,8 +35,3 @@ step-err k vs i v found h at bad = rw (here vs i v h at, bad)
 pub step-end : (k : FileKey) (vs : List Value) (i : ℕ) (found : List ℕ) → length vs ≤ i → joined found (toml_numbers k (items_view (drop i vs))) ≡ Ok found
 unfolding toml_numbers
 step-end k vs i found h = rw (drop_all i vs h, append-nil found)
-
--- what a call that wasn't refused promises
-pub from_ok : {T E : Type 0} (r : Result T E) (P : Type 0) → is_err r ≡ false → OnOk r P → P
-from_ok (Ok x) P h p = p
-from_ok (Err e) P h p = absurd (false≢true (sym h))

@@ -1,15 +1,13 @@
 -- The forms of values in an airport file, and what a key holds in a form.
-use Rattle.std.specs.Prelude.{ℕ, ℤ, pos, negsuc, ◌^◌, ◌&&◌, ◌||◌, ◌==◌, nat_lt, nat_le, Bool, List, [], ◌∷◌, length, slice_index, Option, Some, None, is_some, Result, Ok, Err, option_and_then, filter_map, if◌then◌else◌}
+use Rattle.std.specs.Prelude.{ℕ, ℤ, pos, negsuc, ◌^◌, ◌&&◌, ◌||◌, ◌==◌, nat_lt, nat_le, Bool, List, [], ◌∷◌, length, slice_index, Option, Some, None, option_and_then, if◌then◌else◌}
 use Rattle.std.specs.List.{list_all}
 use Rattle.toml.specs.Data.{Data, Items, Members, as_integer, as_str, as_table, array, item, no_items}
+use Rattle.apron_base.specs.OptionChain.{◌>>=◌}
 use Rattle.apron_base.specs.declared.letter.Letter.{Letter}
 use Rattle.apron_base.specs.declared.letter.Letter.TheVariants.{A, B, C, D, E, F}
 use Rattle.apron_dates.specs.Dates.{read_date}
 use Rattle.apron_dates.specs.declared.day.Date.{Date}
 use Rattle.apron_rules.specs.Names.{is_station}
-use Rattle.airport_files.specs.declared.keys.FileKey.{FileKey}
-use Rattle.airport_files.specs.declared.keys.WalkFault.{WalkFault}
-use Rattle.airport_files.specs.declared.keys.WalkFault.TheVariants.{Missing, Wrong}
 
 -- a capital
 abbrev pub is_capital : ℕ → Bool
@@ -75,23 +73,17 @@ in_u32 (negsuc n) = None
 abbrev pub toml_number : Data → Option ℕ
 toml_number d = option_and_then in_u32 (as_integer d)
 
--- the items of an array, as a list
-abbrev pub items_of : Items → List Data
-items_of no_items = []
-items_of (item d ds) = d ∷ items_of ds
-
--- the value is of the form
-abbrev pub is_in_form : {A : Type 0} → (Data → Option A) → Data → Bool
-is_in_form form d = is_some (form d)
-
--- the items of an array in a form, if each of them is of it
-abbrev pub all_of : {A : Type 0} → (Data → Option A) → Items → Option (List A)
-all_of form ds =
-    if list_all (is_in_form form) (items_of ds) then Some (filter_map form (items_of ds)) else None
+-- the values of these items in a form, if each of them is of it
+abbrev pub items_in : {A : Type 0} → (Data → Option A) → Items → Option (List A)
+items_in form no_items = Some []
+items_in form (item d ds) = do
+  first ← form d
+  rest ← items_in form ds
+  Some (first ∷ rest)
 
 -- an array of values of one form
 abbrev pub array_of : {A : Type 0} → (Data → Option A) → Data → Option (List A)
-array_of form (array ds) = all_of form ds
+array_of form (array ds) = items_in form ds
 array_of form _ = None
 
 -- an array of whole numbers
@@ -101,24 +93,3 @@ toml_number_list = array_of toml_number
 -- an array of tables
 abbrev pub tables_of : Data → Option (List Members)
 tables_of = array_of as_table
-
--- a value in a form, or a fault at its key
-abbrev pub in_form : {A : Type 0} → FileKey → Option A → Result A WalkFault
-in_form at None = Err (Wrong at)
-in_form at (Some x) = Ok x
-
--- what a key holds, in a form
-abbrev pub at_key : {A : Type 0} → (Data → Option A) → FileKey → Option Data → Result A WalkFault
-at_key form at None = Err (Missing at)
-at_key form at (Some d) = in_form at (form d)
-
--- a value in a form, if there is one, or a fault at its key
-abbrev pub in_form_if_there : {A : Type 0} → FileKey → Option A → Result (Option A) WalkFault
-in_form_if_there at None = Err (Wrong at)
-in_form_if_there at (Some x) = Ok (Some x)
-
--- the same for a key that may be missing
-abbrev pub if_there : {A : Type 0} → (Data → Option A) → FileKey → Option Data
-    → Result (Option A) WalkFault
-if_there form at None = Ok None
-if_there form at (Some d) = in_form_if_there at (form d)

@@ -1,60 +1,38 @@
--- Keys with the forms of their values, and the first of them that is at fault.
-use Rattle.std.specs.Prelude.{List, [], ◌∷◌, Bool, true, false, Option, Some, None, Result, Ok, Err, option_and_then, if◌then◌else◌}
-use Rattle.std.specs.Option.{option_or, unwrap_or}
-use Rattle.toml.specs.Data.{Data}
-use Rattle.airport_files.specs.declared.keys.FileKey.{FileKey}
-use Rattle.airport_files.specs.declared.keys.WalkFault.{WalkFault}
-use Rattle.airport_files.specs.declared.keys.WalkFault.TheVariants.{Missing, Wrong}
-use Rattle.airport_files.specs.Forms.{is_in_form}
+-- What a table of an airport file holds at a key; a fault names the key by its text.
+use Rattle.std.specs.Prelude.{ℕ, List, [], ◌++◌, codes, decimal, Option, Some, None, option_map, unwrap_or, ok_or, Result}
+use Rattle.apron_base.specs.ResultChain.{◌>>=◌}
+use Rattle.csv_records.specs.Tables.{each_from}
+use Rattle.toml.specs.Data.{Data, Members, get_member}
+use Rattle.airport_files.specs.declared.read.FileFault.{FileFault}
+use Rattle.airport_files.specs.declared.read.FileFault.TheVariants.{MissingKey, WrongKind}
+use Rattle.airport_files.specs.Forms.{tables_of}
 
--- a key, the form that its value is to have, and what the file has there
-pub record KeyForm : Type 0 where
-  pub key : FileKey
-  pub is_in_form : Data → Bool
-  pub may_be_missing : Bool
-  pub held : Option Data
+-- the value in a form that a table has at the key of this word; a fault has the text of the key,
+-- which is this start and the word
+abbrev pub needed : {A : Type 0} → (Data → Option A) → List ℕ → Members → List ℕ
+    → Result A FileFault
+needed form start table word = do
+  value ← ok_or (get_member word table) (MissingKey (start ++ word))
+  ok_or (form value) (WrongKind (start ++ word))
 
--- a key that has to be there, with a value of this form
-abbrev pub needed : {A : Type 0} → (Data → Option A) → FileKey → Option Data → KeyForm
-needed form key held = record {
-  key = key;
-  is_in_form = is_in_form form;
-  may_be_missing = false;
-  held = held;
-}
+-- no value, or a value in a form
+abbrev pub form_if_there : {A : Type 0} → (Data → Option A) → Option Data → Option (Option A)
+form_if_there form None = Some None
+form_if_there form (Some value) = option_map Some (form value)
 
--- a key that may be missing; if it is there, its value is of this form
-abbrev pub optional : {A : Type 0} → (Data → Option A) → FileKey → Option Data → KeyForm
-optional form key held = record {
-  key = key;
-  is_in_form = is_in_form form;
-  may_be_missing = true;
-  held = held;
-}
+-- the same at a key that may be missing
+abbrev pub optional : {A : Type 0} → (Data → Option A) → List ℕ → Members → List ℕ
+    → Result (Option A) FileFault
+optional form start table word =
+    ok_or (form_if_there form (get_member word table)) (WrongKind (start ++ word))
 
--- the fault of a key with or without a value
-abbrev pub fault_with : KeyForm → Option Data → Option WalkFault
-fault_with sought None = if sought.may_be_missing then None else Some (Missing sought.key)
-fault_with sought (Some d) = if sought.is_in_form d then None else Some (Wrong sought.key)
+-- how the texts of the keys of the k-th row of an array begin
+abbrev pub row_start : List ℕ → ℕ → List ℕ
+row_start array k = array ++ codes " " ++ decimal k ++ codes "."
 
--- the fault of a key: it is missing, or its value is not of its form
-abbrev pub fault_at : KeyForm → Option WalkFault
-fault_at sought = fault_with sought sought.held
-
--- the fault of the first key that has one
-abbrev pub first_fault : List KeyForm → Option WalkFault
-first_fault [] = None
-first_fault (sought ∷ rest) = option_or (fault_at sought) (first_fault rest)
-
--- these values, unless there is a fault
-abbrev pub unless_fault : {A : Type 0} → Option WalkFault → A → Result A WalkFault
-unless_fault None values = Ok values
-unless_fault (Some fault) values = Err fault
-
--- the first fault of these keys, or else the values
-abbrev pub read_in : {A : Type 0} → List KeyForm → A → Result A WalkFault
-read_in keys values = unless_fault (first_fault keys) values
-
--- the value of a key in a form, or this other one, which counts only if the key is at fault
-abbrev pub value_or : {A : Type 0} → A → (Data → Option A) → Option Data → A
-value_or other form held = unwrap_or (option_and_then form held) other
+-- what each row of an array of tables says in turn; a missing array has none
+abbrev pub rows_at : {A : Type 0} → (List ℕ → Members → Result A FileFault) → Members → List ℕ
+    → Result (List A) FileFault
+rows_at says file array = do
+  tables ← optional tables_of [] file array
+  each_from (λ k. says (row_start array k)) 1 (unwrap_or tables [])

@@ -2,9 +2,10 @@ pub mod Words
 pub mod Forms
 pub mod Keys
 pub mod Rows
-pub mod Layout
 pub mod Walk
 pub mod Document
+pub mod Named
+pub mod Types
 pub mod TypeRows
 pub mod Table
 pub mod Meaning

@@ -1,13 +1,12 @@
--- The form of a record of a type file.
+-- A record of a type file as it is read, field by field at its place; it gives the same type.
 use Rattle.std.specs.Prelude.{ℕ, ◌&&◌, ◌==◌, not, Bool, false, List, length, codes, Option, Some, None, if◌then◌else◌}
 use Rattle.std.specs.Str.{bytes_eq}
-use Rattle.apron_base.specs.Digits.{number_of}
 use Rattle.apron_base.specs.OptionChain.{◌>>=◌}
 use Rattle.csv.specs.Records.{field_at}
 use Rattle.apron_rules.specs.declared.parts.TypeRow.{TypeRow}
 use Rattle.airport_files.specs.declared.type_rows.Columns.{Columns}
 use Rattle.airport_files.specs.declared.type_rows.Columns.TheVariants.{Folding, Plain}
-use Rattle.airport_files.specs.Forms.{is_short_name, text_if}
+use Rattle.airport_files.specs.Types.{folding_type, number_named, plain_type, type_name}
 
 -- there is a field, and it is this word
 abbrev pub field_is : List ℕ → Option (List ℕ) → Bool
@@ -36,26 +35,13 @@ columns_of fields =
     else (if length fields == 3 then Some Plain
     else (if (length fields == 5) && has_folding_columns fields then Some Folding else None))
 
--- the fewest bytes of the name of a type
-abbrev pub shortest_type_name : ℕ
-shortest_type_name = 2
-
--- the most bytes of the name of a type
-abbrev pub longest_type_name : ℕ
-longest_type_name = 4
-
--- the most digits of a number of a type file
-abbrev pub most_digits : ℕ
-most_digits = 9
-
 -- the name of a type, of capitals and digits, in the field of this place
 abbrev pub name_in : List (List ℕ) → ℕ → Option (List ℕ)
-name_in fields i =
-    field_at fields i >>= text_if (is_short_name shortest_type_name longest_type_name)
+name_in fields i = field_at fields i >>= type_name
 
 -- the number whose digits are the field of this place
 abbrev pub number_in : List (List ℕ) → ℕ → Option ℕ
-number_in fields i = field_at fields i >>= (λ text. number_of text most_digits)
+number_in fields i = field_at fields i >>= number_named
 
 -- the type of the first three fields, whose wing tips don't fold
 abbrev pub plain_row : List (List ℕ) → Option TypeRow
@@ -73,7 +59,12 @@ folding_row fields = do
   fold ← number_in fields 4
   Some (record plain { parked = parked; fold = fold })
 
--- the type of a record with these columns
+-- the type of a record with these columns, as it is read
 abbrev pub row_of : Columns → List (List ℕ) → Option TypeRow
 row_of Plain fields = if length fields == 3 then plain_row fields else None
 row_of Folding fields = if length fields == 5 then folding_row fields else None
+
+-- the type of a record with these columns
+abbrev pub type_of : Columns → List (List ℕ) → Option TypeRow
+type_of Plain fields = plain_type fields
+type_of Folding fields = folding_type fields

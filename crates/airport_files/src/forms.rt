@@ -5,7 +5,8 @@ ghost use Rattle.toml.specs.Data.{get_member};
 ghost use Rattle.toml.specs.View.{view, table_view};
 ghost use Rattle.apron_dates.specs.Dates.{IsFirstDay};
 ghost use Rattle.apron_rules.specs.Names.{is_station};
-ghost use Rattle.airport_files.specs.Forms.{toml_number, station_of, is_capital, text_if, is_short_byte, is_short_name, name_of, date_of, letter_of_byte, letter_named, letter_of, at_key, if_there};
+ghost use Rattle.airport_files.specs.Forms.{toml_number, station_of, is_capital, text_if, is_short_byte, is_short_name, name_of, date_of, letter_of_byte, letter_named, letter_of};
+ghost use Rattle.airport_files.specs.Walk.{at_key, if_there};
 
 use crate::keys::{FileKey, WalkFault};
 use apron_base::{Letter, Name};

@@ -5,9 +5,7 @@ ghost use Rattle.toml.specs.Data.{get_member};
 ghost use Rattle.toml.specs.View.{view, table_view, array_view};
 ghost use Rattle.apron_dates.specs.Dates.{IsFirstDay};
 ghost use Rattle.apron_rules.specs.Names.{is_station};
-ghost use Rattle.airport_files.specs.Rows.{ReadsRow};
-ghost use Rattle.airport_files.specs.Layout.{layout_of};
-ghost use Rattle.airport_files.specs.Walk.{is_table, are_tables, walk_rows_from, frontages_of, stands_of, pairs_of, rows_value};
+ghost use Rattle.airport_files.specs.Walk.{ReadsRow, is_table, are_tables, walk_rows_from, frontages_of, stands_of, pairs_of, layout_of, rows_value};
 
 use crate::forms::find;
 use crate::keys::{FileKey, WalkFault};

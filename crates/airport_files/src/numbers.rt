@@ -1,7 +1,7 @@
 // Numbers of digits.
 ghost use Rattle.std.specs.Prelude.{◌≡◌};
 ghost use Rattle.apron_base.specs.Digits.{number_of};
-ghost use Rattle.airport_files.specs.TypeRows.{most_digits};
+ghost use Rattle.airport_files.specs.Types.{most_digits};
 
 use apron_base::number_of;
 

@@ -2,8 +2,9 @@
 ghost use Rattle.std.specs.Prelude.{◌≡◌, ◌⊎◌, ◌<◌, ◌^◌, IfOk, IsTrue, length};
 ghost use Rattle.apron_dates.specs.Dates.{IsFirstDay};
 ghost use Rattle.apron_rules.specs.Names.{is_station};
-ghost use Rattle.airport_files.specs.Layout.{layout_of};
-ghost use Rattle.airport_files.specs.Meaning.{Means, IsNamed, airport_parts, named_layout, layout_in, types_in, airport_of_parts, meaning};
+ghost use Rattle.airport_files.specs.Walk.{layout_of};
+ghost use Rattle.airport_files.specs.Named.{IsNamed, airport_parts, named, layout_in};
+ghost use Rattle.airport_files.specs.Meaning.{Means, types_in, airport_of_parts, meaning};
 ghost use Rattle.toml.specs.View.{table_view};
 
 use crate::keys::{WalkFault, key_text};
@@ -59,7 +60,7 @@ fn layout_in(alloc: Global, airport: &[u8]) -> Result<Layout, FileFault>
 }
 
 fn layout_from(alloc: Global, table: &Table) -> Result<Layout, FileFault>
-    ensures layout { Means result (named_layout (layout_of (table_view table.now))) }
+    ensures layout { Means result (named (layout_of (table_view table.now))) }
     ensures station { IfOk result (λ layout. IsTrue (is_station layout.head.station)) }
     ensures first { IfOk result (λ layout. IsFirstDay layout.head.first) }
 {

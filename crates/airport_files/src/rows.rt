@@ -5,8 +5,7 @@ ghost use Rattle.apron_dates.specs.Dates.{IsFirstDay};
 ghost use Rattle.apron_rules.specs.Names.{is_station};
 ghost use Rattle.toml.specs.Data.{Data, get_member};
 ghost use Rattle.airport_files.specs.declared.keys.WalkFault.{WalkFault};
-ghost use Rattle.airport_files.specs.Rows.{ReadsRow, head_in, frontage_in, stand_in, pair_in};
-ghost use Rattle.airport_files.specs.Walk.{head_number, head_table, toml_numbers, numbers_at, frontage_name, frontage_objects, frontage_value, stand_row_name, stand_row_number, stand_letter, stand_half, stand_value, pair_name, pair_letter, pair_value};
+ghost use Rattle.airport_files.specs.Walk.{ReadsRow, head_number, head_in, head_table, toml_numbers, numbers_at, frontage_name, frontage_objects, frontage_in, frontage_value, stand_row_name, stand_row_number, stand_letter, stand_half, stand_in, stand_value, pair_name, pair_letter, pair_in, pair_value};
 
 use crate::forms::{
     date_at, find, letter_at, name_at, name_if_there, number, number_at, station_at,

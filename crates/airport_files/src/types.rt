@@ -1,8 +1,10 @@
 // The table of a type file, read record by record.
-ghost use Rattle.std.specs.Prelude.{◌≡◌, ◌⊎◌, ℕ, List, Some, IfOk, IfErr, ◌<◌, ◌+◌, ◌^◌, length, MatchResult, Ok, Err};
+ghost use Rattle.std.specs.Prelude.{◌≡◌, ℕ, List, Some, IfOk, IfErr, ◌<◌, ◌+◌, ◌^◌, length};
 ghost use Rattle.csv.specs.declared.parser.State.{State};
 ghost use Rattle.csv_records.specs.Reading.{IsReading};
-ghost use Rattle.airport_files.specs.Table.{table_in, table_from, rows_left};
+ghost use Rattle.csv_records.specs.Tables.{table_in};
+ghost use Rattle.airport_files.specs.Table.{ReadsTable, RefusesTable, table_from, rows_left};
+ghost use Rattle.airport_files.specs.Types.{types_after};
 
 use crate::type_rows::{Columns, columns_of, row_of};
 use apron_base::{Listed, Memory};
@@ -37,7 +39,7 @@ fn read_type_header(rdr: &mut Reader<&[u8]>, row: &mut ByteRecord) -> Result<Col
         × (table_from (turns + 1) s left ≡ rows_left columns 2 turns t rest)) }
     ensures err { IfErr result (λ e. (turns : ℕ) (s : State) (left : List ℕ)
         → IsReading (λ b. Some b.now) rdr.old s left
-        → (e ≡ TableFault.Memory) ⊎ (table_from (turns + 1) s left ≡ Err e)) }
+        → RefusesTable e (table_from (turns + 1) s left)) }
 {
     if !read_row(rdr, row)? {
         return Err(TableFault::BadRow(1));
@@ -57,9 +59,9 @@ fn read_rows(
     turns: usize,
 ) -> Result<Listed<TypeRow>, TableFault>
     requires few { turns < 2 ^ 31 }
-    ensures value { (s : State) (left : List ℕ) → IsReading (λ b. Some b.now) rdr.old s left
-        → MatchResult result (λ v. rows_left columns 2 turns s left ≡ Ok v)
-        (λ e. (e ≡ TableFault.Memory) ⊎ (rows_left columns 2 turns s left ≡ Err e)) }
+    ensures value { (s : State) (left : List ℕ)
+        → IsReading (λ b. Some b.now) rdr.old s left
+        → ReadsTable result (rows_left columns 2 turns s left) }
 {
     let mut rows = Listed::new(alloc);
     for k in 0..turns {
@@ -79,8 +81,7 @@ fn read_rows(
 /// The types of a type file, or its first bad record.
 pub(crate) fn read_table(alloc: Global, text: &[u8]) -> Result<Listed<TypeRow>, TableFault>
     requires few { length text.now < 2 ^ 31 }
-    ensures value { MatchResult result (λ v. table_in text.now ≡ Ok v)
-        (λ e. (e ≡ TableFault.Memory) ⊎ (table_in text.now ≡ Err e)) }
+    ensures value { ReadsTable result (table_in types_after text.now) }
 {
     let mut rdr = start(alloc, text);
     let mut row = ByteRecord::new(alloc);

@@ -1,15 +1,16 @@
 // The words `serve A T N ADDRESS WORKERS JOURNAL`, for many desks at once over TCP, and
 // `serve A T N screen DAY ADDRESS WORKERS SCREENADDRESS SCREENS JOURNAL`, for screens beside them.
-ghost use Rattle.std.specs.Prelude.{◌≡◌, IfOk, length};
-ghost use Rattle.apron.specs.Desks.{connections_named, named_up_to, screens_named, workers_named};
+ghost use Rattle.std.specs.Prelude.{◌≡◌, IfOk, IfSome, is_some, length};
+ghost use Rattle.apron_run.specs.Words.{is_number, value_of};
+ghost use Rattle.apron_serve.specs.Orders.{most_listeners, most_screens};
 
-use crate::opening::{BoundPlace, Endpoint, Opening, Peers};
+use crate::opening::{BoundAddress, ListenAddress, Opening, Peers};
 use crate::reporting_desks::ReportingDesks;
 use crate::time_limits::time_limits;
 use crate::unclear::tell_unclear;
-use apron_base::{MAX_DIGITS, Memory, Sink, Word, number_of};
-use apron_run::{Status, is_plain_number};
-use apron_serve::{MAX_CONNECTIONS, MAX_LISTENERS, MAX_SCREENS, serve_all};
+use apron_base::{Memory, Sink, Word};
+use apron_run::{Status, is_plain_number, plain_number};
+use apron_serve::{MAX_LISTENERS, MAX_SCREENS, connections_of, serve_all};
 use std::alloc::Global;
 use std::io;
 use std::net::{Net, TcpListener, TcpStream};
@@ -89,13 +90,13 @@ fn why_ended(status: u8) -> &'static str {
     }
 }
 
-// The words of `serve` and after it, without places and journal; the address for desks, and the one
-// for screens if the words ask for any; and the journal's path.
+// The words of `serve` and after it, without addresses and journal; the address for desks, and the
+// one for screens if the words ask for any; and the journal's path.
 #[derive(Clone, Copy)]
 struct ServeWords<'a> {
     words: &'a [Word],
-    desks: Endpoint<'a>,
-    screens: Option<Endpoint<'a>>,
+    desks: ListenAddress<'a>,
+    screens: Option<ListenAddress<'a>>,
     journal: &'a str,
 }
 
@@ -103,7 +104,7 @@ struct ServeWords<'a> {
 fn order_in(words: &[Word]) -> Option<ServeWords<'_>> {
     match words {
         [word, _, _, connections, rest @ ..]
-            if word.text() == "serve" && connections_of(connections.text()) > 0 => {
+            if word.text() == "serve" && connections_of(connections).is_some() => {
             order_after(words, rest)
         }
         _ => None,
@@ -139,28 +140,25 @@ fn order_after<'a>(words: &'a [Word], rest: &'a [Word]) -> Option<ServeWords<'a>
     }
 }
 
-// The place of desks, if the word names a number of workers.
-fn desks_at<'a>(address: &'a Word, workers: &Word, journal: &'a Word) -> Option<Endpoint<'a>> {
-    match workers_of(workers.text()) {
-        0 => None,
-        listeners => Some(Endpoint {
-            address: address.text(),
-            listeners,
-            served: Peers::Desks(journal.text()),
-        }),
-    }
+// The address of desks, if the word names a number of workers.
+fn desks_at<'a>(address: &'a Word, workers: &Word, journal: &'a Word) -> Option<ListenAddress<'a>> {
+    Some(ListenAddress {
+        address: address.text(),
+        listeners: workers_of(workers)?,
+        served: Peers::Desks(journal.text()),
+    })
 }
 
-// The place of screens, if the words name a number of screens and a day.
-fn screens_at<'a>(address: &'a Word, screens: &Word, day: &'a Word) -> Option<Endpoint<'a>> {
-    match screens_of(screens.text()) {
-        listeners if listeners > 0 && is_day_word(day.text()) => Some(Endpoint {
-            address: address.text(),
-            listeners,
-            served: Peers::Screens(day.text()),
-        }),
-        _ => None,
+// The address of screens, if the words name a number of screens and a day.
+fn screens_at<'a>(address: &'a Word, screens: &Word, day: &'a Word) -> Option<ListenAddress<'a>> {
+    if !is_day_word(day.text()) {
+        return None;
     }
+    Some(ListenAddress {
+        address: address.text(),
+        listeners: screens_of(screens)?,
+        served: Peers::Screens(day.text()),
+    })
 }
 
 /// Whether the word can name a day of a plan: digits, of which the first is no zero.
@@ -168,36 +166,20 @@ pub(crate) fn is_day_word(text: &str) -> bool {
     is_plain_number(text.as_bytes()) && text != "0"
 }
 
-/// How many connections the word names, 1 to 1,000,000; 0 if it names no such number.
-pub(crate) fn connections_of(text: &str) -> u64
-    ensures named { result ≡ connections_named text.now }
+/// How many workers the word names, if it names 1 to 16.
+pub(crate) fn workers_of(word: &Word) -> Option<u32>
+    ensures some { is_some result ≡ is_number 1 most_listeners word.now }
+    ensures value { IfSome result (λ workers. workers ≡ value_of word.now) }
 {
-    number_up_to(text, u64::from(MAX_CONNECTIONS))
+    plain_number(word.text().as_bytes(), 1, MAX_LISTENERS as u32)
 }
 
-/// How many workers the word names, 1 to 16; 0 if it names no such number.
-pub(crate) fn workers_of(text: &str) -> u64
-    ensures named { result ≡ workers_named text.now }
+/// How many screens the word names, if it names 1 to 8.
+pub(crate) fn screens_of(word: &Word) -> Option<u32>
+    ensures some { is_some result ≡ is_number 1 most_screens word.now }
+    ensures value { IfSome result (λ screens. screens ≡ value_of word.now) }
 {
-    number_up_to(text, MAX_LISTENERS as u64)
-}
-
-/// How many screens the word names, 1 to 8; 0 if it names no such number.
-pub(crate) fn screens_of(text: &str) -> u64
-    ensures named { result ≡ screens_named text.now }
-{
-    number_up_to(text, MAX_SCREENS as u64)
-}
-
-// The number that the word is, if it is at most `most`; otherwise 0.
-fn number_up_to(text: &str, most: u64) -> u64
-    ensures named { result ≡ named_up_to most text.now }
-{
-    let text = text.as_bytes();
-    match number_of(text, MAX_DIGITS) {
-        Some(number) if is_plain_number(text) && number <= most => number,
-        _ => 0,
-    }
+    plain_number(word.text().as_bytes(), 1, MAX_SCREENS as u32)
 }
 
 // A listener for each worker of desks, and one for each screen.
@@ -227,7 +209,7 @@ fn listeners_of<
     let nowhere = TcpDesks::nowhere();
     let desks = all_beside(rt, alloc, order.desks, &nowhere, None)?;
     let screens = match order.screens {
-        Some(place) => all_beside(rt, alloc, place, &nowhere, None)?,
+        Some(at) => all_beside(rt, alloc, at, &nowhere, None)?,
         None => Vec::new(alloc),
     };
     Ok((false, Listeners { desks, screens }))
@@ -245,12 +227,12 @@ fn bound_listeners<'a, R: Eprint + Net<Listener = TcpListener, Stream = TcpStrea
         return Ok(None);
     };
     let (at_screens, screens) = match order.screens {
-        Some(place) => {
-            let Some(first) = bind(rt, limits, place) else {
+        Some(at) => {
+            let Some(first) = bind(rt, limits, at) else {
                 return Ok(None);
             };
-            let listeners = all_beside(rt, alloc, place, &first, None)?;
-            (Some(bound_at(place, &first)), listeners)
+            let listeners = all_beside(rt, alloc, at, &first, None)?;
+            (Some(bound_at(at, &first)), listeners)
         }
         None => (None, Vec::new(alloc)),
     };
@@ -270,24 +252,24 @@ fn bound_listeners<'a, R: Eprint + Net<Listener = TcpListener, Stream = TcpStrea
     })
 }
 
-// The first listener at a place. `None` if its address can't be had: standard error says why.
+// The first listener at an address. `None` if it can't be had: standard error says why.
 fn bind<'a, R: Eprint + Net<Listener = TcpListener, Stream = TcpStream>>(
     rt: &'a R,
     limits: TimeLimits,
-    place: Endpoint<'a>,
+    at: ListenAddress<'a>,
 ) -> Option<TcpDesks<'a, R>> {
-    match TcpDesks::bind(rt, limits, place.address) {
+    match TcpDesks::bind(rt, limits, at.address) {
         Ok(first) => Some(first),
         Err(cause) => {
-            report_meaning(rt, place.address, &cause, meaning_of(&cause));
+            report_meaning(rt, at.address, &cause, meaning_of(&cause));
             None
         }
     }
 }
 
-fn bound_at<'a, R>(place: Endpoint<'a>, first: &TcpDesks<'a, R>) -> BoundPlace<'a> {
-    BoundPlace {
-        place,
+fn bound_at<'a, R>(at: ListenAddress<'a>, first: &TcpDesks<'a, R>) -> BoundAddress<'a> {
+    BoundAddress {
+        listen: at,
         bound: first.address(),
     }
 }
@@ -325,21 +307,21 @@ fn is_want_of_descriptors(cause: &io::Error) -> bool {
     }
 }
 
-// As many listeners beside this one as the place has. The first of them has the opening, if one is
-// given.
+// As many listeners beside this one as the address has. The first of them has the opening, if one
+// is given.
 fn all_beside<'a, R: Eprint>(
     rt: &'a R,
     alloc: Global,
-    place: Endpoint<'a>,
+    at: ListenAddress<'a>,
     first: &TcpDesks<'a, R>,
     opening: Option<Opening<'a>>,
 ) -> Result<Vec<ReportingDesks<'a, R>>, Memory>
-    ensures as_many { IfOk result (λ listeners. length listeners.items ≡ place.entry.listeners) }
+    ensures as_many { IfOk result (λ listeners. length listeners.items ≡ at.entry.listeners) }
 {
     let mut listeners = Vec::new(alloc);
-    for made in 0..place.listeners {
+    for made in 0..at.listeners {
         let opening = if made == 0 { opening } else { None };
-        listeners.push(ReportingDesks::new(rt, place.address, opening, first.beside()))?;
+        listeners.push(ReportingDesks::new(rt, at.address, opening, first.beside()))?;
     }
     Ok(listeners)
 }

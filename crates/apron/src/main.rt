@@ -28,7 +28,7 @@ use std::fs::File;
 use std::process::ExitCode;
 use std::rt::{Env, Files};
 use std::{env, io};
-use system_files::{FileDisk, FileShelf, ToldStream, report_meaning};
+use system_files::{FileDisk, FileShelf, ReportingStream, report_meaning};
 use watch_list::{Shown, Watches};
 use watches::all_and_high;
 
@@ -45,7 +45,7 @@ fn main(rt: HostRuntime) -> ExitCode {
     let status = match words_and_watches(&rt) {
         Ok((words, watches)) if desks::are_asked(words.as_slice()) => {
             let front = Cell::new(Front::NONE);
-            let output = FrontStream::new(ToldStream::new(&rt, OUTPUT, rt.stdout()), &front);
+            let output = FrontStream::new(ReportingStream::new(&rt, OUTPUT, rt.stdout()), &front);
             let status = desks::serve_words(
                 &rt,
                 &rt,
@@ -138,8 +138,8 @@ fn run_on<D: Disk + Drop>(
 ) -> u8 {
     let mut disk = disk;
     let mut shelf = FileShelf::new(rt);
-    let mut source = ReaderSource::new(ToldStream::new(rt, INPUT, rt.stdin()));
-    let output = FrontStream::new(ToldStream::new(rt, OUTPUT, rt.stdout()), front);
+    let mut source = ReaderSource::new(ReportingStream::new(rt, INPUT, rt.stdin()));
+    let output = FrontStream::new(ReportingStream::new(rt, OUTPUT, rt.stdout()), front);
     let mut sink = WriterSink::new(output);
     let status = run_with(
         rt.alloc(),
@@ -195,7 +195,7 @@ fn season_of_plan<D: Disk + Drop>(
         asked.push(Word::new(alloc, word.text())?)?;
     }
     let mut sink = ListSink::new(alloc, MOST_EXPORTED, Vec::new(alloc))?;
-    let mut source = ReaderSource::new(ToldStream::new(rt, INPUT, rt.stdin()));
+    let mut source = ReaderSource::new(ReportingStream::new(rt, INPUT, rt.stdin()));
     let _exported = run_with(
         alloc,
         asked.as_slice(),

@@ -1,8 +1,9 @@
 // What was not understood of a command line that is no form of the program, for standard error.
-use crate::desks::{connections_of, is_day_word, screens_of, workers_of};
+use crate::desks::{is_day_word, screens_of, workers_of};
 use crate::forms::{FORMS, Form, form_of};
 use apron_base::{Name, Word};
 use apron_check::airport_of;
+use apron_serve::connections_of;
 use std::fmt;
 use std::rt::Files;
 use system_files::FileShelf;
@@ -153,7 +154,7 @@ fn unclear_word(form: Form, rest: &[Word]) -> Unclear<'_> {
                 Unclear::Others(form)
             } else if !is_day_word(day.text()) {
                 wrong_day(day)
-            } else if screens_of(screens.text()) == 0 {
+            } else if screens_of(screens).is_none() {
                 wrong_number("SCREENS", screens, "1 to 8")
             } else {
                 wrong_desks(connections, workers).unwrap_or(Unclear::Day(day.text()))
@@ -178,9 +179,9 @@ fn wrong_day(day: &Word) -> Unclear<'_> {
 // The number of connections, or else that of workers, that was not understood, if one of them was
 // not.
 fn wrong_desks<'w>(connections: &'w Word, workers: &'w Word) -> Option<Unclear<'w>> {
-    if connections_of(connections.text()) == 0 {
+    if connections_of(connections).is_none() {
         Some(wrong_number("CONNECTIONS", connections, "1 to 1,000,000"))
-    } else if workers_of(workers.text()) == 0 {
+    } else if workers_of(workers).is_none() {
         Some(wrong_number("WORKERS", workers, "1 to 16"))
     } else {
         None

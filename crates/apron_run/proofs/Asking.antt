@@ -22,7 +22,7 @@ use Rattle.history_core.specs.Answer.{ActsAs, IsAccepted, Replies, Sought, added
 use Rattle.history_core.specs.AtRisk.{IsAskedFor, LeavesAtRisk}
 use Rattle.history_core.specs.History.{IsLegal, replay}
 use Rattle.history_core.specs.Laws.{HasAdded, HasVisit}
-use Rattle.history_core.specs.Steps.{Stepped, TakenAs, accepted, ahead, denied, edit, full, name, refused, repeated}
+use Rattle.history_core.specs.Acceptance.{Stepped, TakenAs, accepted, ahead, denied, edit, full, name, refused, repeated}
 use Rattle.history_core.proofs.Added.{visits_added}
 use Rattle.history_core.proofs.Legal.{front_legal}
 use Rattle.apron_run.specs.Asking.{AsksOnce, AsksSeason, IsMet, IsMissing, IsThere, MeetsAll, NoMoreAtRisk, OnlyAtRisk, Reached, StopsAmong, StopsImport, record_behind}

@@ -20,7 +20,7 @@ use Rattle.desk_http.specs.Routes.{ask_of_request}
 use Rattle.desk_http.specs.Runs.{Runs}
 use Rattle.desk_workers.specs.Watched.{FeedTexts}
 use Rattle.apron_run.specs.Desk.{new_port}
-use Rattle.apron_run.specs.Headline.{Exchange, IsUnkept, Sends, is_given, takes_number}
+use Rattle.apron_run.specs.Headline.{Exchanges, IsUnkept, Sends, is_given, takes_number}
 use Rattle.apron_run.proofs.Feeding.{AsPlain, as_plain}
 
 -- the number of the next call of a port whose calls have no gap
@@ -101,12 +101,12 @@ module _ (airport : AirportParts) where
           inr (inr (entry, is, record { sent_is = faults; ask = told.ask; asks = same ∙ told.asks; of = told.of; since = told.since }))
 
   module _ (rest : List ℕ) (feeds : FeedTexts) where
-    abbrev exchange : List Request → List Sent → Exchange
-    exchange requests sents = record { requests = requests; sents = sents; rest = rest }
+    abbrev exchanges : List Request → List Sent → Exchanges
+    exchanges requests sents = record { requests = requests; sents = sents; rest = rest }
 
     -- a port after a run of requests
     abbrev AfterRun : PortState → List Request → List Sent → PortState → Type 0
-    AfterRun before requests sents after = Stands before after (IsUnkept airport (next_of before) (exchange requests sents) after.seen)
+    AfterRun before requests sents after = Stands before after (IsUnkept airport (next_of before) (exchanges requests sents) after.seen)
 
     -- one answer and then others
     join : (before mid after : PortState) (request : Request) (sent : Sent) (requests : List Request) (sents : List Sent) → AfterOne before (ask_of_request airport request) sent mid
@@ -167,20 +167,20 @@ module _ (airport : AirportParts) where
     after_run before after [] (sent ∷ sents) h = absurd h
     after_run before after (request ∷ requests) [] h = absurd h
 
-  at_end : (opened : List Entry) (faults : ℕ) (exchange : Exchange) (new : PortState)
-      → Stands (new_port opened faults) new (IsUnkept airport (next_of (new_port opened faults)) exchange new.seen)
-      → IfSome new.at_risk (IsUnkept airport (next_after opened) exchange new.seen)
-  at_end opened faults exchange new (inl none) =
-      subst (λ (risk : Option Entry). IfSome risk (IsUnkept airport (next_after opened) exchange new.seen)) (sym none) tt
-  at_end opened faults exchange new (inr (inl (none, seen))) =
-      subst (λ (risk : Option Entry). IfSome risk (IsUnkept airport (next_after opened) exchange new.seen)) (sym none) tt
-  at_end opened faults exchange new (inr (inr (entry, is, unkept))) =
+  at_end : (opened : List Entry) (faults : ℕ) (exchanges : Exchanges) (new : PortState)
+      → Stands (new_port opened faults) new (IsUnkept airport (next_of (new_port opened faults)) exchanges new.seen)
+      → IfSome new.at_risk (IsUnkept airport (next_after opened) exchanges new.seen)
+  at_end opened faults exchanges new (inl none) =
+      subst (λ (risk : Option Entry). IfSome risk (IsUnkept airport (next_after opened) exchanges new.seen)) (sym none) tt
+  at_end opened faults exchanges new (inr (inl (none, seen))) =
+      subst (λ (risk : Option Entry). IfSome risk (IsUnkept airport (next_after opened) exchanges new.seen)) (sym none) tt
+  at_end opened faults exchanges new (inr (inr (entry, is, unkept))) =
       let zero : next_after opened + 0 ≡ next_after opened = omega arith in
-      subst (λ (risk : Option Entry). IfSome risk (IsUnkept airport (next_after opened) exchange new.seen)) (sym is)
-      (subst (λ (first : ℕ). IsUnkept airport first exchange new.seen entry) zero unkept)
+      subst (λ (risk : Option Entry). IfSome risk (IsUnkept airport (next_after opened) exchanges new.seen)) (sym is)
+      (subst (λ (first : ℕ). IsUnkept airport first exchanges new.seen entry) zero unkept)
 
   -- the entry at risk after a session that began with none
-  pub unkept_at_risk : (feeds : FeedTexts) (opened : List Entry) (faults : ℕ) (exchange : Exchange) (new : PortState) → Runs (Sends feeds airport) (new_port opened faults) exchange.requests exchange.sents new
-      → IfSome new.at_risk (IsUnkept airport (next_after opened) exchange new.seen)
-  unkept_at_risk feeds opened faults exchange new runs =
-      at_end opened faults exchange new (after_run exchange.rest feeds (new_port opened faults) new exchange.requests exchange.sents runs)
+  pub unkept_at_risk : (feeds : FeedTexts) (opened : List Entry) (faults : ℕ) (exchanges : Exchanges) (new : PortState) → Runs (Sends feeds airport) (new_port opened faults) exchanges.requests exchanges.sents new
+      → IfSome new.at_risk (IsUnkept airport (next_after opened) exchanges new.seen)
+  unkept_at_risk feeds opened faults exchanges new runs =
+      at_end opened faults exchanges new (after_run exchanges.rest feeds (new_port opened faults) new exchanges.requests exchanges.sents runs)

@@ -7,22 +7,16 @@ use Rattle.apron_check.specs.declared.files.AirportFiles.{AirportFiles}
 use Rattle.apron_check.specs.declared.faults.FilesFault.{FilesFault}
 use Rattle.desk_workers.specs.Watched.{FeedTexts}
 use Rattle.apron_run.specs.Causes.{FaultsHaveCause, NoFaultIsTold}
-use Rattle.apron_run.specs.Chart.{ChartsNamed}
-use Rattle.apron_run.specs.Check.{TellsFound}
 use Rattle.apron_run.specs.Export.{IsSeason}
-use Rattle.apron_run.specs.Import.{ImportsFound, around}
 use Rattle.apron_base.specs.Shelf.{ShelfState}
-use Rattle.apron_run.specs.Init.{MakesJournal}
-use Rattle.apron_run.specs.Make.{TellsDay}
-use Rattle.apron_run.specs.PlanText.{PrintsText}
+use Rattle.journal_disk.specs.Disk.{DiskState}
 use Rattle.apron_run.specs.Print.{Writes, usage_text}
 use Rattle.apron_run.specs.Propose.{IsProposed}
-use Rattle.apron_run.specs.Run.{DiskCounts, Does, RunsAs, SinkCounts}
+use Rattle.apron_run.specs.Run.{DiskCounts, SinkCounts}
+use Rattle.apron_run.specs.Carried.{CarriedAs, Carries, ChartsNamed, DoesWithFiles, ImportsFound, MakesJournal, PrintsText, SinkAndDisk, TellsDay, TellsFound, UpgradesJournal, sink_and_disk}
 use Rattle.apron_run.specs.Statuses.{exit_code, is_disk_fault, is_shelf_status, is_sink_status, is_source_status, status_of_fault}
-use Rattle.apron_run.specs.TwoFiles.{DoesWithFiles}
-use Rattle.apron_run.specs.Upgrade.{UpgradesJournal}
 use Rattle.apron_run.specs.Words.{Subcommand, desk, init, check, chart, import, export, propose, upgrade, make, help, version, faulty, uses_disk, uses_shelf, uses_source}
-use Rattle.apron_run.specs.World.{SinkAndDisk, World, sink_and_disk}
+use Rattle.apron_run.specs.World.{World}
 use Rattle.apron_run.specs.declared.status.Status.{Status}
 use Rattle.apron_run.specs.declared.status.Status.TheVariants.{Done, Usage, ShelfFault, ReadFault, WriteFault, DiskFault, Memory}
 use Rattle.apron_run.proofs.Counting.{Counted, Lines, OfLine, Printed, fault_spares, fault_status, found_counted, lines_of, printed}
@@ -79,11 +73,11 @@ found_disk (Err fault) before after status tells =
     let lines : Lines status (status_of_fault fault) before after = lines_of _ (status_of_fault fault) before after status tells in ap is_disk_fault lines.is ∙ fault_spares fault
 
 import_read : (found : Result AirportFiles FilesFault) (season : List ℕ) (shelf : ShelfState) (before after : World) (status : Status)
-    → ImportsFound found season (around shelf before) (around after.shelf after) status → is_source_status status ≡ false
+    → ImportsFound found season (record before { shelf = shelf }) after status → is_source_status status ≡ false
 import_read (Ok files) season shelf before after status imports =
-    let counts : CountsImport status (around shelf before) (around after.shelf after) =
-    import_met files season (around shelf before) (around after.shelf after) imports.met status imports.meets imports.tells in counts.read
-import_read (Err fault) season shelf before after status (same, tells) = found_read (Err fault) before.sink after.sink status tells
+    let counts : CountsImport status (record before { shelf = shelf }) after =
+    import_met files season (record before { shelf = shelf }) after imports.met status imports.meets imports.tells in counts.read
+import_read (Err fault) season shelf before after status (same, unwritten, tells) = found_read (Err fault) before.sink after.sink status tells
 
 -- what a word that needs no file ends with
 record SpeaksOfSink (status : Status) : Type 0 where
@@ -109,15 +103,15 @@ usage_speaks before after status tells = line_speaks usage_text Usage before aft
 
 module _ (feeds : FeedTexts) (before after : World) (status : Status) where
   -- a word that reads no file
-  speaks : (asked : Subcommand) → uses_shelf asked ≡ false → Does feeds asked before after status → SpeaksOfSink status
-  speaks (make visits) none does = day_speaks visits before.sink after.sink status does
-  speaks help none does = print_speaks _ before.sink after.sink status does
-  speaks version none does = print_speaks _ before.sink after.sink status does
-  speaks faulty none does = usage_speaks before.sink after.sink status does
+  speaks : (asked : Subcommand) → uses_shelf asked ≡ false → Carries feeds asked before after status → SpeaksOfSink status
+  speaks (make visits) none does = day_speaks visits before.sink after.sink status does.1
+  speaks help none does = print_speaks _ before.sink after.sink status does.1
+  speaks version none does = print_speaks _ before.sink after.sink status does.1
+  speaks faulty none does = usage_speaks before.sink after.sink status does.1
   speaks asked none does = absurd cc
 
   -- the word uses the shelf if that fails
-  shelf_used : (asked : Subcommand) → Does feeds asked before after status → is_shelf_status status ≡ true → uses_shelf asked ≡ true
+  shelf_used : (asked : Subcommand) → Carries feeds asked before after status → is_shelf_status status ≡ true → uses_shelf asked ≡ true
   shelf_used asked does is = by_use (uses_shelf asked) refl
     where
       by_use : (used : Bool) → uses_shelf asked ≡ used → uses_shelf asked ≡ true
@@ -134,7 +128,7 @@ module _ (feeds : FeedTexts) (before after : World) (status : Status) where
       absurd (not_both (is_source_status status) counts.read is)
 
   -- and the source if that does
-  source_used : (asked : Subcommand) → Does feeds asked before after status → is_source_status status ≡ true → uses_source asked (exit_code ReadFault) ≡ true
+  source_used : (asked : Subcommand) → Carries feeds asked before after status → is_source_status status ≡ true → uses_source asked (exit_code ReadFault) ≡ true
   source_used (desk airport types) does is = refl
   source_used (init airport types) does is = unread MakesJournal (λ files. makes_counted files (sink_and_disk before) (sink_and_disk after) status) does is
   source_used (check airport types) does is = absurd (not_both (is_source_status status) (found_read does.found before.sink after.sink status does.tells) is)
@@ -148,7 +142,7 @@ module _ (feeds : FeedTexts) (before after : World) (status : Status) where
   source_used asked does is = let says : SpeaksOfSink status = speaks asked refl does in absurd (not_both (is_source_status status) says.read is)
 
   -- and the disk
-  disk_used : (asked : Subcommand) → Does feeds asked before after status → is_disk_fault status ≡ true → uses_disk asked (exit_code DiskFault) ≡ true
+  disk_used : (asked : Subcommand) → Carries feeds asked before after status → is_disk_fault status ≡ true → uses_disk asked (exit_code DiskFault) ≡ true
   disk_used (check airport types) does is = absurd (not_both (is_disk_fault status) (found_disk does.found before.sink after.sink status does.tells) is)
   disk_used (desk airport types) does is = refl
   disk_used (init airport types) does is = refl
@@ -160,7 +154,7 @@ module _ (feeds : FeedTexts) (before after : World) (status : Status) where
   disk_used asked does is = let says : SpeaksOfSink status = speaks asked refl does in absurd (not_both (is_disk_fault status) says.disk is)
 
 -- the faults that a run tells have their causes
-pub faults_have_cause : (feeds : FeedTexts) (asked : Subcommand) (before after : World) (code : ℕ) → RunsAs feeds asked before after code → FaultsHaveCause asked before after code
+pub faults_have_cause : (feeds : FeedTexts) (asked : Subcommand) (before after : World) (code : ℕ) → CarriedAs feeds asked before after code → FaultsHaveCause asked before after code
 faults_have_cause feeds asked before after code runs =
     let status : Status = runs.status in
     record {
@@ -186,10 +180,12 @@ faults_have_cause feeds asked before after code runs =
 never_zero : (before now : ℕ) → now ≡ 0 → Rose before now → ⊥
 never_zero before now none rose = let least : min (before + 1) last_count ≤ now = rose in absurd (omega arith)
 
-pub no_fault_told : NoFaultIsTold
-no_fault_told feeds asked before after code runs shelf source sink =
-    let causes : FaultsHaveCause asked before after code = faults_have_cause feeds asked before after code runs in (
-      λ is. let fails = causes.shelf is in never_zero before.shelf.faults after.shelf.faults shelf fails.1,
-      λ is. let fails = causes.source is in never_zero before.source.faults after.source.faults source fails.1,
-      λ is. never_zero before.sink.faults after.sink.faults sink (causes.sink is),
+pub no_fault_told : {D : Type 0} (state : D → DiskState) → NoFaultIsTold state
+no_fault_told state feeds asked shelf source sink disk now read written left code runs none_shelf none_source none_sink =
+    let status : Status = runs.status in (
+      λ is. never_zero shelf.faults now.faults none_shelf
+          (rose_by (is_shelf_status status) shelf.faults now.faults (shelf_code status (sym runs.code_is ∙ is)) runs.shelf),
+      λ is. never_zero source.faults read.faults none_source
+          (rose_by (is_source_status status) source.faults read.faults (read_code status (sym runs.code_is ∙ is)) runs.source),
+      λ is. never_zero sink.faults written.faults none_sink (sink_rose status sink.faults written.faults (write_code status (sym runs.code_is ∙ is)) runs.sink),
     )

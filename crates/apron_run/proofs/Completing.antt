@@ -17,18 +17,15 @@ use Rattle.apron_check.specs.declared.files.AirportFiles.{AirportFiles}
 use Rattle.apron_check.specs.declared.faults.FilesFault.{FilesFault}
 use Rattle.apron_check.specs.declared.faults.FilesFault.TheVariants as files
 use Rattle.apron_run.specs.Asking.{AsksSeason, MeetsAll, Reached, StopsAmong, StopsImport, record_behind}
-use Rattle.apron_run.specs.Chart.{ChartsDay, ChartsFiles, ChartsNamed, IsChart, day_named}
-use Rattle.apron_run.specs.Check.{ChecksFiles, TellsFault, TellsFound}
+use Rattle.apron_run.specs.Chart.{IsChart, day_named}
+use Rattle.apron_run.specs.Check.{TellsFault}
 use Rattle.apron_run.specs.Complete.{Admits, AdmitsEach, HasFiles, HasJournal, HasSeason, IsEmpty}
-use Rattle.apron_run.specs.Import.{Around, AsksFound, FindsSeason, ImportsFiles, ImportsFound, IsSeasonTooLong, MeetsImport, PrintsImportEnd, Stores, Tells, around, most_season, new_import}
-use Rattle.apron_run.specs.Imported.{TellsImported, imported_line}
-use Rattle.apron_run.specs.Init.{InitsJournal, Makes, MakesJournal, TellsMade}
-use Rattle.apron_run.specs.Make.{TellsDay}
-use Rattle.apron_run.specs.PlanText.{MeetsText, PrintsFiles, PrintsText, TellsText}
+use Rattle.apron_run.specs.Import.{AsksFound, FindsSeason, IsSeasonTooLong, Tells, most_season, new_import}
+use Rattle.apron_run.specs.Imported.{imported_line}
 use Rattle.apron_run.specs.Print.{Writes, made_text}
-use Rattle.apron_run.specs.TwoFiles.{DoesFound, DoesWithFiles}
 use Rattle.apron_run.specs.Unusable.{TellsUnusable, status_of_unusable, unusable_line}
-use Rattle.apron_run.specs.World.{SinkAndDisk, World, sink_and_disk}
+use Rattle.apron_run.specs.World.{World}
+use Rattle.apron_run.specs.Carried.{ChartsDay, ChartsFiles, ChartsNamed, ChecksFiles, DoesFound, DoesWithFiles, ImportsFiles, ImportsFound, InitsJournal, Makes, MakesJournal, MeetsImport, MeetsText, PrintsFiles, PrintsImportEnd, PrintsText, SinkAndDisk, TellsDay, TellsFound, TellsImported, TellsMade, TellsText, sink_and_disk}
 use Rattle.apron_run.specs.declared.imported.Imported.{Imported}
 use Rattle.apron_run.specs.declared.imported.Imported.TheVariants as how
 use Rattle.apron_run.specs.declared.status.Status.{Status}
@@ -176,7 +173,7 @@ module _ (airport : AirportParts) (visits : List NewVisit) (before after : Reach
 
       well : (imported : Imported) → StopsImport airport (record_behind stops.front) stops.at stops.new after imported → imported ≡ how.Memory
       well (how.Refused told) (is, (other, asks)) = let (visit, named, number) = asks.takes in absurd (here.name visit named)
-      well (how.Full told) (is, asks) = let (none, no_place) = asks.takes in absurd (no_place (here.place none))
+      well (how.Full told) (is, asks) = let (none, never) = asks.takes in absurd (never (here.grows none))
       well how.DiskFault (takes, history, next, counts, risk) =
           let same : stops.at.faults ≡ before.faults = all_faults airport stops.front before stops.at stops.met in
           absurd (still (subst (λ (n : ℕ). Rose n after.faults) same counts.1))
@@ -220,29 +217,29 @@ module _ (airport : AirportParts) (season : List ℕ) (before after : ShelfState
   season_found (Err other) finds = absurd finds.cause
 
 -- an import into a journal
-module _ (made : AirportFiles) (history : List Entry) (season : List ℕ) (before after : Around) (status : Status) (has : HasJournal made before.stores.disk history)
-    (valid : HasSeason made.airport before.stores.shelf season (new_import history before.stores.disk.faults))
-    (shelf : ¬ (Rose before.stores.shelf.faults after.stores.shelf.faults)) (sink : ¬ (Rose before.sink.faults after.sink.faults))
-    (disk : ¬ (Rose before.stores.disk.faults after.stores.disk.faults)) where
+module _ (made : AirportFiles) (history : List Entry) (season : List ℕ) (before after : World) (status : Status) (has : HasJournal made before.disk history)
+    (valid : HasSeason made.airport before.shelf season (new_import history before.disk.faults))
+    (shelf : ¬ (Rose before.shelf.faults after.shelf.faults)) (sink : ¬ (Rose before.sink.faults after.sink.faults))
+    (disk : ¬ (Rose before.disk.faults after.disk.faults)) where
   asks_well : (found : Result (List NewVisit) Imported) (left : Reached) (imported : Imported) → (found ≡ Ok valid.visits) ⊎ (found ≡ Err how.Memory)
-      → left.faults ≡ after.stores.disk.faults → AsksFound made.airport found (new_import history before.stores.disk.faults) left imported
+      → left.faults ≡ after.disk.faults → AsksFound made.airport found (new_import history before.disk.faults) left imported
       → TellsImported imported before.sink after.sink status → Well status
   asks_well found left imported (inl is) faults asks tells =
-      asked_well made.airport valid.visits (new_import history before.stores.disk.faults) left valid.admits valid.numbers
-      (subst (λ (n : ℕ). ¬ (Rose before.stores.disk.faults n)) (sym faults) disk) imported before.sink after.sink status
-      (subst (λ (f : Result (List NewVisit) Imported). AsksFound made.airport f (new_import history before.stores.disk.faults) left imported) is asks) sink tells
+      asked_well made.airport valid.visits (new_import history before.disk.faults) left valid.admits valid.numbers
+      (subst (λ (n : ℕ). ¬ (Rose before.disk.faults n)) (sym faults) disk) imported before.sink after.sink status
+      (subst (λ (f : Result (List NewVisit) Imported). AsksFound made.airport f (new_import history before.disk.faults) left imported) is asks) sink tells
   asks_well found left imported (inr is) faults asks tells =
-      let (same, wanting) = subst (λ (f : Result (List NewVisit) Imported). AsksFound made.airport f (new_import history before.stores.disk.faults) left imported) is asks in
+      let (same, wanting) = subst (λ (f : Result (List NewVisit) Imported). AsksFound made.airport f (new_import history before.disk.faults) left imported) is asks in
       wanting_well before.sink after.sink status (subst (λ (i : Imported). TellsImported i before.sink after.sink status) wanting tells)
 
-  imported_well : (met : Result Imported Unusable) → MeetsImport made season before.stores after.stores met → PrintsImportEnd met before.sink after.sink status → Well status
+  imported_well : (met : Result Imported Unusable) → MeetsImport made season before (record after { sink = before.sink }) met → PrintsImportEnd met before.sink after.sink status → Well status
   imported_well (Ok imported) meets tells =
-      let same : meets.opened ≡ history = opened_once made before.stores.disk after.stores.disk history has meets.opened meets.opens in
+      let same : meets.opened ≡ history = opened_once made before.disk after.disk history has meets.opened meets.opens in
       asks_well meets.found meets.left imported
-      (season_found made.airport season before.stores.shelf after.stores.shelf valid.visits valid.told valid.tells shelf meets.found meets.finds) meets.faults
-      (subst (λ (es : List Entry). AsksFound made.airport meets.found (new_import es before.stores.disk.faults) meets.left imported) same meets.asks) tells
+      (season_found made.airport season before.shelf after.shelf valid.visits valid.told valid.tells shelf meets.found meets.finds) meets.faults
+      (subst (λ (es : List Entry). AsksFound made.airport meets.found (new_import es before.disk.faults) meets.left imported) same meets.asks) tells
   imported_well (Err why) meets tells =
-      unopened_well why before.sink after.sink status (unopened_wants made before.stores.disk after.stores.disk history has why meets.disk disk) tells
+      unopened_well why before.sink after.sink status (unopened_wants made before.disk after.disk history has why meets.uses disk) tells
 
 -- a season that is valid, with a shelf that tells the same of its file
 moved_season : (airport : AirportParts) (season : List ℕ) (shelf other : ShelfState) (start : Reached) → other.file season ≡ shelf.file season
@@ -260,25 +257,25 @@ module _ (made : AirportFiles) (history : List Entry) (airport types season : Li
     (journal : HasJournal made before.disk history) (valid : HasSeason made.airport before.shelf season (new_import history before.disk.faults))
     (shelf : ¬ (Rose before.shelf.faults after.shelf.faults)) (sink : ¬ (Rose before.sink.faults after.sink.faults)) (disk : ¬ (Rose before.disk.faults after.disk.faults)) where
   files_fail : (found : Result AirportFiles FilesFault) (mid : ShelfState) → FindsFiles before.shelf mid airport types found
-      → ImportsFound found season (around mid before) (around after.shelf after) status → found ≡ Err files.ShelfFault → ⊥
+      → ImportsFound found season (record before { shelf = mid }) after status → found ≡ Err files.ShelfFault → ⊥
   files_fail found mid finds imports is =
       let failing : FindsFiles before.shelf mid airport types (Err files.ShelfFault) = subst (FindsFiles before.shelf mid airport types) is finds in
       let counts : Counts true before.shelf.faults mid.faults = failing.counts in
-      let (same, tells) = subst (λ (f : Result AirportFiles FilesFault). ImportsFound f season (around mid before) (around after.shelf after) status) is imports in
-      let left : after.shelf.faults ≡ mid.faults = ap (λ (s : Stores). s.shelf.faults) same in
+      let (same, unwritten, tells) = subst (λ (f : Result AirportFiles FilesFault). ImportsFound f season (record before { shelf = mid }) after status) is imports in
+      let left : after.shelf.faults ≡ mid.faults = ap (λ (s : ShelfState). s.faults) same in
       shelf (subst (Rose before.shelf.faults) (sym left) counts.1)
 
   files_found : (found : Result AirportFiles FilesFault) (mid : ShelfState) → FindsFiles before.shelf mid airport types found
-      → ImportsFound found season (around mid before) (around after.shelf after) status → (found ≡ Ok made) ⊎ (found ≡ Err files.Memory) → Well status
+      → ImportsFound found season (record before { shelf = mid }) after status → (found ≡ Ok made) ⊎ (found ≡ Err files.Memory) → Well status
   files_found found mid finds imports (inl is) =
       let good : FindsFiles before.shelf mid airport types (Ok made) = subst (FindsFiles before.shelf mid airport types) is finds in
       let faults : mid.faults ≡ before.shelf.faults = good.counts in
-      let does = subst (λ (f : Result AirportFiles FilesFault). ImportsFound f season (around mid before) (around after.shelf after) status) is imports in
-      imported_well made history season (around mid before) (around after.shelf after) status journal
+      let does = subst (λ (f : Result AirportFiles FilesFault). ImportsFound f season (record before { shelf = mid }) after status) is imports in
+      imported_well made history season (record before { shelf = mid }) after status journal
       (moved_season made.airport season before.shelf mid (new_import history before.disk.faults) (good.kept season) valid)
       (subst (λ (n : ℕ). ¬ (Rose n after.shelf.faults)) (sym faults) shelf) sink disk does.met does.meets does.tells
   files_found found mid finds imports (inr is) =
-      let (same, tells) = subst (λ (f : Result AirportFiles FilesFault). ImportsFound f season (around mid before) (around after.shelf after) status) is imports in
+      let (same, unwritten, tells) = subst (λ (f : Result AirportFiles FilesFault). ImportsFound f season (record before { shelf = mid }) after status) is imports in
       memory_well before.sink after.sink status tells
 
   pub import_well : ImportsFiles airport types season before after status → Well status

@@ -3,6 +3,7 @@ use Rattle.std.proofs.Common.{◌≡◌, ◌≤◌, ◌∙◌, ℕ, List, Bool, 
 use Rattle.apron_base.specs.Counts.{Counts}
 use Rattle.apron_base.specs.Ends.{SinkState}
 use Rattle.desk_workers.specs.Watched.{FeedTexts}
+use Rattle.journal_disk.specs.Disk.{DiskState}
 use Rattle.journal_disk.specs.declared.fault.JournalFault.TheVariants as journal
 use Rattle.history_core.specs.declared.opening.OpenFault.TheVariants as entries
 use Rattle.apron_check.specs.Files.{is_files_shelf_fault as is_shelf_found}
@@ -14,12 +15,12 @@ use Rattle.apron_run.specs.Check.{TellsFault}
 use Rattle.apron_run.specs.Desk.{ServedCounts}
 use Rattle.apron_run.specs.Journal.{WhyUnusable}
 use Rattle.apron_run.specs.Print.{Writes}
-use Rattle.apron_run.specs.Run.{DiskCounts, Does, RunsAs, SinkCounts}
+use Rattle.apron_run.specs.Run.{DiskCounts, SinkCounts}
+use Rattle.apron_run.specs.Carried.{CarriedAs, Carries, DoesFound, DoesWithFiles, SinkAndDisk, sink_and_disk}
 use Rattle.apron_run.specs.Statuses.{exit_code, is_disk_fault, is_shelf_status, is_source_status, is_told, status_of_fault}
-use Rattle.apron_run.specs.TwoFiles.{DoesFound, DoesWithFiles}
 use Rattle.apron_run.specs.Unusable.{TellsUnusable, status_of_unusable, unusable_line}
 use Rattle.apron_run.specs.Words.{Subcommand}
-use Rattle.apron_run.specs.World.{DiskSeen, SinkAndDisk, World, sink_and_disk}
+use Rattle.apron_run.specs.World.{World}
 use Rattle.apron_run.specs.declared.status.Status.{Status}
 use Rattle.apron_run.specs.declared.status.Status.TheVariants.{Done, WriteFault}
 use Rattle.apron_run.specs.declared.unusable.Unusable.{Unusable}
@@ -137,7 +138,7 @@ module _ (before after : SinkAndDisk) (status : Status) where
       (still (is_disk_fault (status_of_fault fault)) before.disk.faults after.disk.faults (fault_spares fault) same) tells
 
 -- the disk if there is no journal to work on
-pub why_disk : (files : AirportFiles) (before after : DiskSeen) (why : Unusable) → WhyUnusable files before after why
+pub why_disk : (files : AirportFiles) (before after : DiskState) (why : Unusable) → WhyUnusable files before after why
     → Counts (is_disk_fault (status_of_unusable why)) before.faults after.faults
 why_disk files before after (Journal journal.DiskFault) fails = fails
 why_disk files before after (Journal journal.NotEmpty) fails = absurd fails
@@ -147,8 +148,8 @@ why_disk files before after (Entries fault) (found, vain, why) = vain.counts
 
 -- a run that is counted so
 pub runs_counted : {feeds : FeedTexts} (asked : Subcommand) (failed : Bool) (before after : World) (status : Status) → after.source ≡ before.source
-    → Counts failed before.shelf.faults after.shelf.faults → Counted failed status (sink_and_disk before) (sink_and_disk after) → Does feeds asked before after status
-    → DiskCounts asked status before.disk.faults after.disk.faults → RunsAs feeds asked before after (exit_code status)
+    → Counts failed before.shelf.faults after.shelf.faults → Counted failed status (sink_and_disk before) (sink_and_disk after) → Carries feeds asked before after status
+    → DiskCounts asked status before.disk.faults after.disk.faults → CarriedAs feeds asked before after (exit_code status)
 runs_counted asked failed before after status source shelf counted does disk = record {
   status = status;
   code_is = refl;
@@ -159,19 +160,23 @@ runs_counted asked failed before after status source shelf counted does disk = r
   disk = disk;
 }
 
+-- what is asked by other words
+pub asked_runs : {feeds : FeedTexts} {asked words : Subcommand} {before after : World} {code : ℕ} → asked ≡ words → CarriedAs feeds asked before after code → CarriedAs feeds words before after code
+asked_runs {feeds} {asked} {words} {before} {after} {code} is runs = subst (λ (a : Subcommand). CarriedAs feeds a before after code) is runs
+
 module _ (OnFiles : AirportFiles → SinkAndDisk → SinkAndDisk → Status → Type 0) where
   -- what is done with what was found in two files
   pub found_counted : (before after : SinkAndDisk) (status : Status) → ((files : AirportFiles) → OnFiles files before after status → Counted false status before after)
       → (found : Result AirportFiles FilesFault) → DoesFound OnFiles found before after status → Counted (is_shelf_found found) status before after
   found_counted before after status counted (Ok files) does = counted files does
-  found_counted before after status counted (Err fault) (disk, tells) = fault_counted before after status fault (ap (λ (d : DiskSeen). d.faults) disk) tells
+  found_counted before after status counted (Err fault) (unwritten, tells) = fault_counted before after status fault unwritten.faults tells
 
   -- a run of a word that does so
   pub files_as : {feeds : FeedTexts} (asked : Subcommand) (airport types : List ℕ) (before after : World) (status : Status)
       → ((files : AirportFiles) → OnFiles files (sink_and_disk before) (sink_and_disk after) status → Counted false status (sink_and_disk before) (sink_and_disk after))
-      → (DoesWithFiles OnFiles airport types before after status → Does feeds asked before after status)
+      → (DoesWithFiles OnFiles airport types before after status → Carries feeds asked before after status)
       → (Counts (is_disk_fault status) before.disk.faults after.disk.faults → DiskCounts asked status before.disk.faults after.disk.faults)
-      → after.source ≡ before.source → DoesWithFiles OnFiles airport types before after status → RunsAs feeds asked before after (exit_code status)
+      → after.source ≡ before.source → DoesWithFiles OnFiles airport types before after status → CarriedAs feeds asked before after (exit_code status)
   files_as asked airport types before after status counted does disk source with_files =
       let finds = with_files.finds in
       let counts : Counted (is_shelf_found with_files.found) status (sink_and_disk before) (sink_and_disk after) =

@@ -7,8 +7,8 @@ use Rattle.journal_disk.specs.Faults.{InitFails}
 use Rattle.journal_disk.specs.Header.{empty_journal}
 use Rattle.journal_disk.specs.declared.fault.JournalFault.{JournalFault}
 use Rattle.journal_disk.specs.declared.fault.JournalFault.TheVariants as journal
-use Rattle.apron_run.specs.Init.{IsJournalMade, Makes}
-use Rattle.apron_run.specs.World.{disk_seen}
+use Rattle.apron_run.specs.Init.{IsJournalMade}
+use Rattle.apron_run.specs.Carried.{Makes}
 
 -- what holds of what is exposed, if it is
 pub if_told : (contents : Option (List ℕ)) (P : List ℕ → Type 0) → ((bytes : List ℕ) → contents ≡ Some bytes → P bytes) → IfSome contents P
@@ -29,22 +29,22 @@ reads_as None contents bytes wanted is alike same = absurd cc
 
 -- a journal was made
 pub is_made : (digests : List ℕ) (before after : DiskState) → IfExposed before (λ bytes. length bytes ≡ 0) → IfExposed before (λ _. IsSafe (empty_journal digests) after)
-    → TellsAlike before after → IfExposed after (after.images after.moment) → Counts false before.faults after.faults → IsJournalMade digests (disk_seen before) (disk_seen after)
+    → TellsAlike before after → IfExposed after (after.images after.moment) → Counts false before.faults after.faults → IsJournalMade digests before after
 is_made digests before after empty safe alike reads counts = record {
   empty = if_told before.contents (λ bytes. length bytes ≡ 0) empty;
   reads = if_told before.contents (λ _. after.contents ≡ Some (empty_journal digests)) (λ bytes is.
       reads_as before.contents after.contents bytes (empty_journal digests) is alike (λ now here. safe bytes is now (reads now here)));
+  safe = safe;
   counts = counts;
 }
 
 -- why none was made
 pub is_refused : (digests : List ℕ) (before after : DiskState) (fault : JournalFault) → InitFails before after fault
-    → IfExposed before (λ bytes. length bytes ≢ 0 → Stays before after) → Makes digests (disk_seen before) (disk_seen after) (Some fault)
+    → IfExposed before (λ bytes. length bytes ≢ 0 → Stays before after) → Makes digests before after (Some fault)
 is_refused digests before after journal.DiskFault fails spares = record {
-  spares = if_told before.contents (λ bytes. length bytes ≢ 0 → after.contents ≡ before.contents)
-      (λ bytes is some. let stays : Stays before after = spares bytes is some in stays.contents);
+  spares = if_told before.contents (λ bytes. length bytes ≢ 0 → Stays before after) spares;
   counts = fails;
 }
 is_refused digests before after journal.NotEmpty (told, stays, counts) spares =
-    record { bytes = if_told before.contents (λ bytes. length bytes ≢ 0) told; reads = stays.contents; counts = counts }
+    record { bytes = if_told before.contents (λ bytes. length bytes ≢ 0) told; unwritten = record { stays = stays; faults = counts } }
 is_refused digests before after fault fails spares = absurd fails

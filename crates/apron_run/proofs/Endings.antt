@@ -17,7 +17,7 @@ use Rattle.apron_check.specs.Lines.{fault_line}
 use Rattle.apron_check.specs.declared.faults.FilesFault.TheVariants as files
 use Rattle.desk_workers.specs.Watched.{FeedTexts}
 use Rattle.apron_run.specs.Desk.{DeskAnswers}
-use Rattle.apron_run.specs.Headline.{Carried, Exchange, Sends, StopsWith}
+use Rattle.apron_run.specs.Headline.{Carried, Exchanges, Sends, StopsWith}
 use Rattle.apron_run.specs.Statuses.{status_of_outcome}
 use Rattle.apron_run.specs.declared.status.Status.{Status}
 use Rattle.apron_run.specs.declared.status.Status.TheVariants.{Done, ReadFault, WriteFault, Cut, Memory, Malformed, Limit, Spent}
@@ -73,14 +73,14 @@ same_alike one other same = subst (AreAlike one) (sym same) (record { first = re
 -- what a session that began with this port answered of its input, how it stopped, and the port
 -- after it
 pub record Meets (feeds : FeedTexts) (airport : AirportParts) (start : PortState) (carried : Carried) (status : Status) (after : PortState) : Type 0 where
-  pub exchange : Exchange
+  pub exchanges : Exchanges
   pub new : PortState
   pub alike : AreAlike new after
   pub spent : status ≡ Spent → after.spent ≡ true
-  pub splits : Splits carried.input exchange.requests exchange.rest
-  pub few : length exchange.requests ≤ most_requests
-  pub runs : Runs (Sends feeds airport) start exchange.requests exchange.sents new
-  pub stops : StopsWith airport status carried exchange
+  pub splits : Splits carried.input exchanges.requests exchanges.rest
+  pub few : length exchanges.requests ≤ most_requests
+  pub runs : Runs (Sends feeds airport) start exchanges.requests exchanges.sents new
+  pub stops : StopsWith airport status carried exchanges
 
 module _ (feeds : FeedTexts) (airport : AirportParts) (start : PortState) (input taken more : List ℕ) (front : input ≡ taken ++ more) (done : Progress) (served after : PortState)
     (splits : Splits taken done.requests done.rest) (stay : All IsOpen done.requests) (runs : Runs (Sends feeds airport) start done.requests done.sents served) where
@@ -97,11 +97,11 @@ module _ (feeds : FeedTexts) (airport : AirportParts) (start : PortState) (input
   texts = texts_of airport done.sents
 
   -- those requests, in the whole input
-  abbrev open_exchange : Exchange
-  open_exchange = record { requests = done.requests; sents = done.sents; rest = done.rest ++ more }
+  abbrev open_exchanges : Exchanges
+  open_exchanges = record { requests = done.requests; sents = done.sents; rest = done.rest ++ more }
 
   -- the same and one more, with what is after it
-  abbrev one_more : Request → Sent → List ℕ → Exchange
+  abbrev one_more : Request → Sent → List ℕ → Exchanges
   one_more request sent behind = record { requests = done.requests ++ request ∷ []; sents = done.sents ++ sent ∷ []; rest = behind ++ more }
 
   open_splits : Splits (taken ++ more) done.requests (done.rest ++ more)
@@ -113,9 +113,9 @@ module _ (feeds : FeedTexts) (airport : AirportParts) (start : PortState) (input
 
   -- the session stopped after those requests
   open_stops : (output : List ℕ) (status : Status) → AreAlike served after → (status ≡ Spent → after.spent ≡ true) → length done.requests ≤ most_requests
-      → StopsWith airport status (carrying output) open_exchange → Meets feeds airport start (carrying output) status after
+      → StopsWith airport status (carrying output) open_exchanges → Meets feeds airport start (carrying output) status after
   open_stops output status alike spent few stops = record {
-    exchange = open_exchange;
+    exchanges = open_exchanges;
     new = served;
     alike = alike;
     spent = spent;
@@ -127,7 +127,7 @@ module _ (feeds : FeedTexts) (airport : AirportParts) (start : PortState) (input
 
   -- the same, with the port as it was
   open_meets : (output : List ℕ) (status : Status) → after ≡ served → (status ≡ Spent → ⊥) → length done.requests ≤ most_requests
-      → StopsWith airport status (carrying output) open_exchange → Meets feeds airport start (carrying output) status after
+      → StopsWith airport status (carrying output) open_exchanges → Meets feeds airport start (carrying output) status after
   open_meets output status same other few stops = open_stops output status (same_alike served after same) (λ is. absurd (other is)) few stops
 
   -- the session stopped after one more
@@ -137,7 +137,7 @@ module _ (feeds : FeedTexts) (airport : AirportParts) (start : PortState) (input
     new = after;
     alike = same_alike after after refl;
     spent = λ is. absurd (other is);
-    exchange = one_more request sent first.behind;
+    exchanges = one_more request sent first.behind;
     few = let one : length (done.requests ++ request ∷ []) ≡ length done.requests + 1 = length-append done.requests (request ∷ []) in omega arith;
     splits = subst (λ i. Splits i (done.requests ++ request ∷ []) (first.behind ++ more)) (sym front) (more_splits request first.behind first.first);
     runs = runs_push (Sends feeds airport) start served after done.requests done.sents request sent runs first.comes;
@@ -220,7 +220,7 @@ module _ (feeds : FeedTexts) (airport : AirportParts) (start : PortState) (input
   )
   session_meets came.WriteFault (reply request sent) written tail first read count wrote end = more_meets request sent _ WriteFault first (λ is. cc) count
       (inl (record {
-        before = open_exchange;
+        before = open_exchanges;
         goes_on = record { stay = stay; few = count };
         request = request;
         sent = sent;

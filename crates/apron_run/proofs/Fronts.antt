@@ -17,6 +17,7 @@ use Rattle.journal_disk.specs.Extent.{AppendsSafely, Extent, HasOpened, IsCrashS
 use Rattle.journal_disk.specs.Header.{opening_of}
 use Rattle.apron_run.specs.Journal.{IsOf}
 use Rattle.apron_run.specs.Survival.{EachImageFrom, IsTextOf, LeavesFronts, OpensToFront, OpensWith, RisksIfFailed, Survives}
+use Rattle.apron_run.specs.World.{Unwritten}
 use Rattle.apron_run.proofs.Disks.{known}
 use Rattle.apron_run.proofs.Headers.{told_after, told_before}
 
@@ -29,6 +30,10 @@ stays_same disk = record {
     since = λ moment image late least left. absurd (omega arith);
   };
 }
+
+-- and no call fails then
+pub unwritten_same : (disk : DiskState) → Unwritten disk disk
+unwritten_same disk = record { stays = stays_same disk; faults = refl }
 
 -- time goes on twice
 passes_both : (a b c : DiskState) → Passes a b → Passes b c → Passes a c
@@ -386,7 +391,7 @@ opens_map digests entries P Q image to (inr (more, at, opens)) = inr (more, to m
 pub history_survives : (airport : AirportParts) (digests : List ℕ) (history : List Entry) (extent : Extent) (begun disk : DiskState)
     → LeavesFronts digests (entries_within extent) begun disk → IsKeeperOf airport history (keeper_of extent disk) → IsCrashSafe extent disk
     → IfSome disk.contents (IsOf digests)
-    → Survives digests history (entry_behind airport (keeper_of extent disk)) (record { before = begun; after = disk })
+    → Survives digests history (entry_behind airport (keeper_of extent disk)) begun disk
 history_survives airport digests history extent begun disk fronts kept safe of = record {
   fronts = record {
     opened = fronts.opened;

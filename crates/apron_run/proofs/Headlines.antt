@@ -15,6 +15,7 @@ use Rattle.history_core.specs.Opening.{next_after}
 use Rattle.history_core.proofs.Added.{visits_added}
 use Rattle.history_core.proofs.Drafts.{drafts_made}
 use Rattle.history_core.proofs.Legal.{front_legal, legal_sound}
+use Rattle.journal_disk.specs.Disk.{DiskState}
 use Rattle.desk_http.specs.Alone.{numbers_from}
 use Rattle.desk_http.specs.Ports.{PortState}
 use Rattle.desk_http.specs.Session.{IsReadToEnd, is_write_fault, texts_of}
@@ -26,13 +27,15 @@ use Rattle.apron_check.specs.declared.faults.FilesFault.{FilesFault}
 use Rattle.apron_check.specs.declared.faults.FilesFault.TheVariants as files
 use Rattle.apron_run.specs.Check.{TellsFault}
 use Rattle.apron_run.specs.Journal.{KeepsHistory}
-use Rattle.apron_run.specs.Desk.{DeskFindsNoJournal, MeetsDesk, PrintsSessionEnd, RunsDesk, RunsFound, ServesDesk, TellsOutcome, new_port}
-use Rattle.apron_run.specs.Headline.{AllSound, Carried, CountsUnkept, HasItsEntry, Headline, IsOfItsEntry, TellsEarly, TellsFoundHeadline, TellsHeadline, TellsOf, TellsUnopened, is_given, tells_unkept}
-use Rattle.apron_run.specs.Run.{RunsAs}
-use Rattle.apron_run.specs.Statuses.{exit_code, status_of_outcome}
-use Rattle.apron_run.specs.Unusable.{TellsUnusable, unusable_line}
+use Rattle.apron_run.specs.Desk.{ServesDesk, new_port}
+use Rattle.apron_run.specs.Headline.{AllSound, Carried, CountsUnkept, HasItsEntry, Headline, IsOfItsEntry, TellsFoundHeadline, TellsHeadline, TellsNoSession, TellsOf, is_given, tells_unkept}
+use Rattle.apron_run.specs.End.{faulty, unusable}
+use Rattle.apron_run.specs.Carried.{CarriedAs, MeetsDesk, PrintsSessionEnd, RunsDesk, RunsFound, TellsOutcome}
+use Rattle.apron_run.specs.Print.{Writes}
+use Rattle.apron_run.specs.Statuses.{exit_code, status_of_fault, status_of_outcome}
+use Rattle.apron_run.specs.Unusable.{TellsUnusable, status_of_unusable, unusable_line}
 use Rattle.apron_run.specs.Words.{Subcommand, desk as desk_asked}
-use Rattle.apron_run.specs.World.{DeskEnds, DiskSeen, World, desk_ends}
+use Rattle.apron_run.specs.World.{World}
 use Rattle.apron_run.specs.declared.unusable.Unusable.{Unusable}
 use Rattle.apron_run.specs.declared.status.Status.{Status}
 use Rattle.apron_run.proofs.AtRisk.{unkept_at_risk}
@@ -80,23 +83,23 @@ module _ (airport : AirportParts) where
 
 module _ (feeds : FeedTexts) (files : AirportFiles) where
   -- what a session met is the headline
-  headline_of : (opened : List Entry) (before after : DiskSeen) (carried : Carried) (status : Status) (port : PortState) → IsLegal files.airport opened
+  headline_of : (opened : List Entry) (before after : DiskState) (carried : Carried) (status : Status) (port : PortState) → IsLegal files.airport opened
       → Meets feeds files.airport (new_port opened before.faults) carried status port → (port.spent ≡ true → port.first + length port.calls ≡ call_limit)
       → port.faults ≡ after.faults → KeepsHistory files port.seen port.at_risk after → Headline feeds files opened before after carried (exit_code status)
   headline_of opened before after carried status port legal_before met used counted kept =
-      let exchange = met.exchange in
+      let exchanges = met.exchanges in
       let new = met.new in
       let alike = met.alike in
       let first : ℕ = next_after opened in
-      let count : ℕ = count_by is_given exchange.sents in
+      let count : ℕ = count_by is_given exchanges.sents in
       let leaves : Leaves files.airport (new_port opened before.faults) new count =
-      run_leaves files.airport feeds (new_port opened before.faults) new exchange.requests exchange.sents met.runs in
+      run_leaves files.airport feeds (new_port opened before.faults) new exchanges.requests exchanges.sents met.runs in
       let legal : IsLegal files.airport new.seen = leaves.legal legal_before in
       let calls : new.calls ≡ numbers_from first count = leaves.calls 0 refl ∙ ap (numbers_from first) (zero-add count) in
       record {
         status = status;
         code_is = refl;
-        exchange = exchange;
+        exchanges = exchanges;
         new = new;
         splits = met.splits;
         runs = met.runs;
@@ -114,11 +117,11 @@ module _ (feeds : FeedTexts) (files : AirportFiles) where
         drafts = all_have_entries files.airport new.seen legal;
         visits = all_of_their_entries files.airport new.seen legal;
         faults = alike.faults ∙ counted;
-        unkept = subst (λ (n : ℕ). CountsUnkept (count_by tells_unkept exchange.sents) before.faults n) (alike.faults ∙ counted)
-            (run_counts files.airport feeds (new_port opened before.faults) new exchange.requests exchange.sents met.runs);
+        unkept = subst (λ (n : ℕ). CountsUnkept (count_by tells_unkept exchanges.sents) before.faults n) (alike.faults ∙ counted)
+            (run_counts files.airport feeds (new_port opened before.faults) new exchanges.requests exchanges.sents met.runs);
         keeps = subst (λ (history : List Entry). KeepsHistory files history new.at_risk after) (sym alike.seen)
             (subst (λ (risk : Option Entry). KeepsHistory files port.seen risk after) (sym alike.at_risk) kept);
-        at_risk = unkept_at_risk files.airport feeds opened before.faults exchange new met.runs;
+        at_risk = unkept_at_risk files.airport feeds opened before.faults exchanges new met.runs;
       }
 
 -- what holds of each value that there may be
@@ -127,9 +130,9 @@ if_some None P holds = tt
 if_some (Some value) P holds = holds value refl
 
 -- the headline of a session on a journal
-session_headline : (feeds : FeedTexts) (files : AirportFiles) (input : List ℕ) (before after : DeskEnds) (sink : SinkState) (outcome : Outcome) (status : Status) → before.source.left ≡ Some input
+session_headline : (feeds : FeedTexts) (files : AirportFiles) (input : List ℕ) (before after : World) (sink : SinkState) (outcome : Outcome) (status : Status) → before.source.left ≡ Some input
     → (serves : ServesDesk feeds files before after outcome) → Told outcome after.sink sink status
-    → TellsOf feeds files serves.opened input before (record { source = after.source; sink = sink; disk = after.disk }) (exit_code status)
+    → TellsOf feeds files serves.opened input before (record after { sink = sink }) (exit_code status)
 session_headline feeds files input before after sink outcome status left serves told =
     let session = serves.session in
     let done = session.done in
@@ -151,67 +154,62 @@ session_headline feeds files input before after sink outcome status left serves 
           (headline_of feeds files serves.opened before.disk after.disk carried (status_of_outcome outcome) serves.port opens.legal met serves.spent serves.faults serves.keeps),
     )
 
--- the headline if there is no journal to work on
-unopened_headline : (files : AirportFiles) (before after : DeskEnds) (sink : SinkState) (why : Unusable) (status : Status) → DeskFindsNoJournal files before after why
-    → TellsUnusable why after.sink sink status → TellsUnopened files before (record { source = after.source; sink = sink; disk = after.disk }) (exit_code status)
-unopened_headline files before after sink why status finds (inl (is, wrote)) = record {
-  why = why;
-  code_is = ap exit_code is;
-  source = finds.source;
-  disk = finds.disk;
-  count = length (unusable_line why);
-  wrote = subst (Appends before.sink.told sink.told) (sym (take_all (length (unusable_line why)) (unusable_line why) (omega arith)))
-      (subst (λ (s : SinkState). Appends s.told sink.told (unusable_line why)) finds.sink wrote.told);
-}
-unopened_headline files before after sink why status finds (inr (is, (count, wrote))) = record {
-  why = why;
-  code_is = ap exit_code is;
-  source = finds.source;
-  disk = finds.disk;
-  count = count;
-  wrote = subst (λ (s : SinkState). Appends s.told sink.told (take count (unusable_line why))) finds.sink wrote.told;
-}
+-- a line that was written with its status, whole or a front of it, as a front of it
+line_front : (line : List ℕ) (of status : Status) (before after : SinkState) → Writes line of of before after status
+    → (status ≡ of) × ((count : ℕ) × Appends before.told after.told (take count line))
+line_front line of status before after (inl (is, wrote)) =
+    (is, (length line, subst (Appends before.told after.told) (sym (take_all (length line) line (omega arith))) wrote.told))
+line_front line of status before after (inr (is, (count, wrote))) = (is, (count, wrote.told))
 
--- the headline of a run on a journal, by what was met there
-met_tells : (feeds : FeedTexts) (files : AirportFiles) (before after : DeskEnds) (sink : SinkState) (met : Result Outcome Unusable) (status : Status) → MeetsDesk feeds files before after met
-    → PrintsSessionEnd met after.sink sink status → TellsFoundHeadline feeds (Ok files) before (record { source = after.source; sink = sink; disk = after.disk }) (exit_code status)
+-- the headline if there is no journal to work on
+unopened_headline : (before after : World) (sink : SinkState) (why : Unusable) (status : Status) → after.source ≡ before.source → sink ≡ before.sink
+    → TellsUnusable why sink after.sink status → TellsNoSession (unusable why) before after (exit_code status)
+unopened_headline before after sink why status source same tells =
+    let (is, front) = line_front (unusable_line why) (status_of_unusable why) status sink after.sink tells in
+    record {
+      code_is = ap exit_code is;
+      source = source;
+      count = front.0;
+      wrote = subst (λ (s : SinkState). Appends s.told after.sink.told (take front.0 (unusable_line why))) same front.1;
+    }
+
+-- the headline of a run on a journal, by what was met there once the two files were read, with the
+-- sink as it then was
+met_tells : (feeds : FeedTexts) (files : AirportFiles) (before after : World) (sink : SinkState) (met : Result Outcome Unusable) (status : Status)
+    → MeetsDesk feeds files (record before { shelf = after.shelf }) (record after { sink = sink }) met
+    → PrintsSessionEnd met sink after.sink status → TellsFoundHeadline feeds (Ok files) before after (exit_code status)
 met_tells feeds files before after sink (Ok outcome) status serves tells = inl (record {
   opened = serves.opened;
   opens = serves.opens;
-  tells = if_some before.source.left (λ input. TellsOf feeds files serves.opened input before (record { source = after.source; sink = sink; disk = after.disk }) (exit_code status))
-      (λ input left. session_headline feeds files input before after sink outcome status left serves (told outcome after.sink sink status tells));
+  tells = if_some before.source.left (λ input. TellsOf feeds files serves.opened input before after (exit_code status))
+      (λ input left. session_headline feeds files input (record before { shelf = after.shelf }) (record after { sink = sink }) after.sink outcome status left serves
+      (told outcome sink after.sink status tells));
 })
-met_tells feeds files before after sink (Err why) status finds tells = inr (unopened_headline files before after sink why status finds tells)
+met_tells feeds files before after sink (Err why) status finds tells =
+    inr (why, finds.uses, unopened_headline before after sink why status finds.source finds.sink tells)
 
 -- the headline if the files have a fault
-early_tells : (fault : FilesFault) (before after : DeskEnds) (status : Status) → after.source ≡ before.source → after.disk ≡ before.disk → TellsFault fault before.sink after.sink status
-    → TellsEarly fault before after (exit_code status)
-early_tells fault before after status source disk (inl (is, wrote)) = record {
-  code_is = ap exit_code is;
-  source = source;
-  disk = disk;
-  count = length (fault_line fault);
-  wrote = subst (Appends before.sink.told after.sink.told) (sym (take_all (length (fault_line fault)) (fault_line fault) (omega arith))) wrote.told;
-}
-early_tells fault before after status source disk (inr (is, (count, wrote))) =
-    record { code_is = ap exit_code is; source = source; disk = disk; count = count; wrote = wrote.told }
+early_tells : (fault : FilesFault) (before after : World) (status : Status) → after.source ≡ before.source → TellsFault fault before.sink after.sink status
+    → TellsNoSession (faulty fault) before after (exit_code status)
+early_tells fault before after status source tells =
+    let (is, front) = line_front (fault_line fault) (status_of_fault fault) status before.sink after.sink tells in
+    record { code_is = ap exit_code is; source = source; count = front.0; wrote = front.1 }
 
 -- the headline of what was found in the two files
-found_tells : (feeds : FeedTexts) (found : Result AirportFiles FilesFault) (before after : DeskEnds) (status : Status) → RunsFound feeds found before after status
-    → TellsFoundHeadline feeds found before after (exit_code status)
-found_tells feeds (Ok files) before after status runs =
-    met_tells feeds files before (record { source = after.source; sink = runs.sink; disk = after.disk }) after.sink runs.met status runs.meets runs.tells
-found_tells feeds (Err fault) before after status (source, disk, tells) = early_tells fault before after status source disk tells
+found_tells : (feeds : FeedTexts) (found : Result AirportFiles FilesFault) (before after : World) (status : Status)
+    → RunsFound feeds found (record before { shelf = after.shelf }) after status → TellsFoundHeadline feeds found before after (exit_code status)
+found_tells feeds (Ok files) before after status runs = met_tells feeds files before after runs.sink runs.met status runs.meets runs.tells
+found_tells feeds (Err fault) before after status (source, unwritten, tells) = (unwritten, early_tells fault before after status source tells)
 
 -- the headline of a run
 run_headline : (feeds : FeedTexts) (airport types : List ℕ) (before after : World) (status : Status) → RunsDesk feeds airport types before after status
     → TellsHeadline feeds airport types before after (exit_code status)
 run_headline feeds airport types before after status runs =
-    record { found = runs.found; finds = runs.finds; tells = found_tells feeds runs.found (desk_ends before) (desk_ends after) status runs.runs }
+    record { found = runs.found; finds = runs.finds; tells = found_tells feeds runs.found before after status runs.runs }
 
 -- the headline of a run that is asked a session
-pub asked_headline : (feeds : FeedTexts) (asked : Subcommand) (airport types : List ℕ) (before after : World) (code : ℕ) → asked ≡ desk_asked airport types → RunsAs feeds asked before after code
+pub asked_headline : (feeds : FeedTexts) (asked : Subcommand) (airport types : List ℕ) (before after : World) (code : ℕ) → asked ≡ desk_asked airport types → CarriedAs feeds asked before after code
     → TellsHeadline feeds airport types before after code
 asked_headline feeds asked airport types before after code is runs =
-    let desk : RunsAs feeds (desk_asked airport types) before after code = subst (λ (a : Subcommand). RunsAs feeds a before after code) is runs in
+    let desk : CarriedAs feeds (desk_asked airport types) before after code = subst (λ (a : Subcommand). CarriedAs feeds a before after code) is runs in
     subst (TellsHeadline feeds airport types before after) (sym desk.code_is) (run_headline feeds airport types before after desk.status desk.does)

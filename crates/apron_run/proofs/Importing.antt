@@ -2,7 +2,7 @@
 use Rattle.std.proofs.Common.{◌≡◌, ◌∙◌, ℕ, List, [], ◌∷◌, Bool, false, refl, sym, ap, subst, Result, Ok, Err}
 use Rattle.apron_base.specs.Counts.{Counts}
 use Rattle.apron_base.specs.Keeper.{KeeperState}
-use Rattle.apron_base.specs.Ends.{SinkState}
+use Rattle.apron_base.specs.Ends.{SinkState, SourceState}
 use Rattle.apron_base.specs.Shelf.{ShelfState}
 use Rattle.apron_rules.specs.declared.parts.AirportParts.{AirportParts}
 use Rattle.visit_book.specs.declared.visits.NewVisit.{NewVisit}
@@ -15,15 +15,17 @@ use Rattle.apron_check.specs.declared.files.AirportFiles.{AirportFiles}
 use Rattle.apron_check.specs.declared.faults.FilesFault.{FilesFault}
 use Rattle.desk_workers.specs.Watched.{FeedTexts}
 use Rattle.apron_run.specs.Asking.{AsksSeason, MeetsAll, Reached, StopsAmong, StopsImport, reached_by, record_behind}
-use Rattle.apron_run.specs.Crash.{ImportsOnJournalLeaving, MeetsImportLeaving}
-use Rattle.apron_run.specs.Import.{Around, AsksFound, FindsSeason, HasSeasonCause, ImportsFound, ImportsSeason, MeetsImport, PrintsImportEnd, Stores, around, around_at, is_season_shelf_fault as is_shelf_read, new_import, stores_at}
-use Rattle.apron_run.specs.Imported.{TellsImported, imported_line, status_of_imported}
-use Rattle.apron_run.specs.Journal.{IsOpened, KeepsHistory}
-use Rattle.apron_run.specs.Run.{RunsAs, SinkCounts}
+use Rattle.apron_run.specs.Import.{AsksFound, FindsSeason, HasSeasonCause, ImportsSeason, is_season_shelf_fault as is_shelf_read, new_import}
+use Rattle.apron_run.specs.Imported.{imported_line, status_of_imported}
+use Rattle.apron_run.specs.Journal.{KeepsHistory, NotOpened}
+use Rattle.apron_run.specs.Opened.{IsOpened}
+use Rattle.apron_run.specs.Run.{SinkCounts}
+use Rattle.apron_run.specs.Carried.{CarriedAs, ImportsFound, ImportsOnJournal, MeetsImport, PrintsImportEnd, TellsImported, sink_and_disk}
 use Rattle.apron_run.specs.Statuses.{exit_code, is_disk_fault, is_shelf_status, is_source_status}
+use Rattle.apron_run.specs.Survival.{Survives}
 use Rattle.apron_run.specs.Print.{Writes}
 use Rattle.apron_run.specs.Words.{import as import_asked}
-use Rattle.apron_run.specs.World.{World, sink_and_disk}
+use Rattle.apron_run.specs.World.{World, world_at}
 use Rattle.apron_run.specs.declared.imported.Imported.{Imported}
 use Rattle.apron_run.specs.declared.imported.Imported.TheVariants.{Whole, ShelfFault, TooLong, Refused, Full, DiskFault, Spent, Memory}
 use Rattle.apron_run.specs.declared.status.Status.{Status}
@@ -111,51 +113,51 @@ found_says airport season shelf now (Err why) before after imported cause (same,
     (unread_says airport season shelf now why before.faults after.faults cause (ap (λ (r : Reached). r.faults) same))
 
 -- what is counted at each end
-pub record CountsImport (status : Status) (before after : Around) : Type 0 where
-  pub shelf : Counts (is_shelf_status status) before.stores.shelf.faults after.stores.shelf.faults
+pub record CountsImport (status : Status) (before after : World) : Type 0 where
+  pub shelf : Counts (is_shelf_status status) before.shelf.faults after.shelf.faults
   pub read : is_source_status status ≡ false
   pub sink : SinkCounts status before.sink.faults after.sink.faults
-  pub disk : Counts (is_disk_fault status) before.stores.disk.faults after.stores.disk.faults
+  pub disk : Counts (is_disk_fault status) before.disk.faults after.disk.faults
 
-imported_as : (files : AirportFiles) (season : List ℕ) (before after : Around) (imported : Imported) (status : Status)
-    → ImportsSeason files season before.stores after.stores imported → TellsImported imported before.sink after.sink status → CountsImport status before after
+imported_as : (files : AirportFiles) (season : List ℕ) (before after : World) (imported : Imported) (status : Status)
+    → ImportsSeason files season before (record after { sink = before.sink }) imported → TellsImported imported before.sink after.sink status → CountsImport status before after
 imported_as files season before after imported status imports tells =
     let told : ToldSo imported status before.sink after.sink = told_so imported before.sink after.sink status tells in
-    let says : SaysSo imports.found before.stores.disk.faults imports.left.faults imported =
-    found_says files.airport season before.stores.shelf after.stores.shelf imports.found (new_import imports.opened before.stores.disk.faults) imports.left imported
+    let says : SaysSo imports.found before.disk.faults imports.left.faults imported =
+    found_says files.airport season before.shelf after.shelf imports.found (new_import imports.opened before.disk.faults) imports.left imported
     imports.finds.cause imports.asks in
     record {
-      shelf = subst (λ (b : Bool). Counts b before.stores.shelf.faults after.stores.shelf.faults) (sym (told.shelf ∙ says.shelf)) imports.finds.counts;
+      shelf = subst (λ (b : Bool). Counts b before.shelf.faults after.shelf.faults) (sym (told.shelf ∙ says.shelf)) imports.finds.counts;
       read = told.read;
       sink = told.sink;
-      disk = subst (λ (b : Bool). Counts b before.stores.disk.faults after.stores.disk.faults) (sym told.disk)
-          (subst (Counts (is_disk_fault (status_of_imported imported)) before.stores.disk.faults) imports.faults says.disk);
+      disk = subst (λ (b : Bool). Counts b before.disk.faults after.disk.faults) (sym told.disk)
+          (subst (Counts (is_disk_fault (status_of_imported imported)) before.disk.faults) imports.faults says.disk);
     }
 
-pub met_as : (files : AirportFiles) (season : List ℕ) (before after : Around) (met : Result Imported Unusable) (status : Status)
-    → MeetsImport files season before.stores after.stores met → PrintsImportEnd met before.sink after.sink status → CountsImport status before after
+pub met_as : (files : AirportFiles) (season : List ℕ) (before after : World) (met : Result Imported Unusable) (status : Status)
+    → MeetsImport files season before (record after { sink = before.sink }) met → PrintsImportEnd met before.sink after.sink status → CountsImport status before after
 met_as files season before after (Ok imported) status meets tells = imported_as files season before after imported status meets tells
 met_as files season before after (Err why) status meets tells =
-    let not_opened = meets.disk in
-    let counted : Counted false status (record { sink = before.sink; disk = before.stores.disk }) (record { sink = after.sink; disk = after.stores.disk }) =
-    unusable_counted (record { sink = before.sink; disk = before.stores.disk }) (record { sink = after.sink; disk = after.stores.disk }) status why
-    (why_disk files before.stores.disk after.stores.disk why not_opened.cause) tells in
+    let not_opened : NotOpened files before.disk after.disk why = meets.uses in
+    let counted : Counted false status (sink_and_disk before) (sink_and_disk after) =
+    unusable_counted (sink_and_disk before) (sink_and_disk after) status why (why_disk files before.disk after.disk why not_opened.cause) tells in
     record {
-      shelf = still (is_shelf_status status) before.stores.shelf.faults after.stores.shelf.faults counted.shelf (ap (λ (s : ShelfState). s.faults) meets.shelf);
+      shelf = still (is_shelf_status status) before.shelf.faults after.shelf.faults counted.shelf (ap (λ (s : ShelfState). s.faults) meets.shelf);
       read = counted.read;
       sink = counted.sink;
       disk = counted.disk;
     }
 
 -- an import into a board that was opened
-abbrev pub season_imported : {K : Type 0} (tells : K → KeeperState) (files : AirportFiles) (season : List ℕ) (before after : Stores) (board left : BoardHeld K) (imported : Imported)
+abbrev pub season_imported : {K : Type 0} (tells : K → KeeperState) (files : AirportFiles) (season : List ℕ) (before after : World) (board left : BoardHeld K) (imported : Imported)
     → IsOpened tells files before.disk board
     → ((found : Result (List NewVisit) Imported) × FindsSeason board.airport season before.shelf after.shelf found
     × AsksFound board.airport found (reached_by tells board) (reached_by tells left) imported)
     → left.airport ≡ board.airport → IsLegal left.airport left.history → (tells left.keeper).faults ≡ after.disk.faults
     → KeepsHistory (record { airport = left.airport; digests = files.digests }) left.history (read_entry_at_risk left.airport (tells left.keeper)) after.disk
+    → Survives files.digests left.history (read_entry_at_risk left.airport (tells left.keeper)) before.disk after.disk
     → ImportsSeason files season before after imported
-season_imported tells files season before after board left imported opened (found, finds, asks) same legal faults keeps =
+season_imported tells files season before after board left imported opened (found, finds, asks) same legal faults keeps survives =
     let airport : board.airport ≡ files.airport = opened.airport_is in
     let start : reached_by tells board ≡ new_import board.history before.disk.faults = rw (opened.next, opened.at_risk, opened.faults) refl in
     record {
@@ -170,36 +172,37 @@ season_imported tells files season before after board left imported opened (foun
       faults = faults;
       keeps = subst (λ (a : AirportParts). KeepsHistory (record { airport = a; digests = files.digests }) left.history (reached_by tells left).at_risk after.disk)
           (same ∙ airport) keeps;
+      survives = survives;
     }
 
 -- a run of the word, from before the two files were read
 module _ {feeds : FeedTexts} (airport types season : List ℕ) (before after : World) (status : Status) (source : after.source ≡ before.source) where
   found_as : (found : Result AirportFiles FilesFault) (mid : ShelfState) → FindsFiles before.shelf mid airport types found
-      → ImportsFound found season (around mid before) (around after.shelf after) status → RunsAs feeds (import_asked airport types season) before after (exit_code status)
+      → ImportsFound found season (record before { shelf = mid }) after status → CarriedAs feeds (import_asked airport types season) before after (exit_code status)
   found_as (Ok files) mid finds imports =
-      let counts : CountsImport status (around mid before) (around after.shelf after) =
-      met_as files season (around mid before) (around after.shelf after) imports.met status imports.meets imports.tells in
+      let counts : CountsImport status (record before { shelf = mid }) after =
+      met_as files season (record before { shelf = mid }) after imports.met status imports.meets imports.tells in
       runs_counted (import_asked airport types season) (is_shelf_status status) before after status source
       (subst (λ (n : ℕ). Counts (is_shelf_status status) n after.shelf.faults) finds.counts counts.shelf)
       (record { shelf = refl; read = counts.read; sink = counts.sink; disk = counts.disk })
       (record { found = Ok files; shelf = mid; finds = finds; imports = imports }) counts.disk
-  found_as (Err fault) mid finds (same, tells) =
+  found_as (Err fault) mid finds (same, unwritten, tells) =
       let counted : Counted (is_shelf_found (Err fault)) status (sink_and_disk before) (sink_and_disk after) =
-      fault_counted (sink_and_disk before) (sink_and_disk after) status fault (ap (λ (s : Stores). s.disk.faults) same) tells in
+      fault_counted (sink_and_disk before) (sink_and_disk after) status fault unwritten.faults tells in
       runs_counted (import_asked airport types season) (is_shelf_found (Err fault)) before after status source
-      (subst (λ (s : ShelfState). Counts (is_shelf_found (Err fault)) before.shelf.faults s.faults) (sym (ap (λ (s : Stores). s.shelf) same)) finds.counts) counted
-      (record { found = Err fault; shelf = mid; finds = finds; imports = (same, tells) }) counted.disk
+      (subst (λ (s : ShelfState). Counts (is_shelf_found (Err fault)) before.shelf.faults s.faults) (sym same) finds.counts) counted
+      (record { found = Err fault; shelf = mid; finds = finds; imports = (same, unwritten, tells) }) counted.disk
 
   pub import_as : ((found : Result AirportFiles FilesFault) × (mid : ShelfState) × FindsFiles before.shelf mid airport types found
-      × ImportsFound found season (around mid before) (around after.shelf after) status) → RunsAs feeds (import_asked airport types season) before after (exit_code status)
+      × ImportsFound found season (record before { shelf = mid }) after status) → CarriedAs feeds (import_asked airport types season) before after (exit_code status)
   import_as (found, mid, finds, imports) = found_as found mid finds imports
 
 -- an import after which a line said how it ended, and its disk was given back
-pub told_leaving : {D : Type 0} (state : D → DiskState) {files : AirportFiles} {season : List ℕ} {shelf now : ShelfState} {before after : SinkState} {old left new : D}
-    {status : Status} (met : Result Imported Unusable)
-    → MeetsImportLeaving (record { before = state old; after = state left }) files season (stores_at shelf (state old)) (stores_at now (state left)) met
+pub told_after : {D : Type 0} (state : D → DiskState) {files : AirportFiles} {season : List ℕ} {shelf now : ShelfState} {source : SourceState} {before after : SinkState}
+    {old left new : D} {status : Status} (met : Result Imported Unusable)
+    → MeetsImport files season (world_at shelf source before (state old)) (world_at now source before (state left)) met
     → PrintsImportEnd met before after status → left ≡ new
-    → ImportsOnJournalLeaving (record { before = state old; after = state new }) files season (around_at shelf (state old) before) (around_at now (state new) after) status
-told_leaving {D} state {files} {season} {shelf} {now} {before} {after} {old} {left} {new} {status} met meets tells same =
-    subst (λ d. ImportsOnJournalLeaving (record { before = state old; after = state d }) files season (around_at shelf (state old) before)
-    (around_at now (state d) after) status) same (record { met = met; meets = meets.0; tells = tells }, meets.1)
+    → ImportsOnJournal files season (world_at shelf source before (state old)) (world_at now source after (state new)) status
+told_after {D} state {files} {season} {shelf} {now} {source} {before} {after} {old} {left} {new} {status} met meets tells same =
+    subst (λ d. ImportsOnJournal files season (world_at shelf source before (state old)) (world_at now source after (state d)) status) same
+    (record { met = met; meets = meets; tells = tells })

@@ -1,9 +1,10 @@
+pub mod Forms
 pub mod Feeding
 pub mod Calls
 pub mod Disks
 pub mod Headers
 pub mod Fronts
-pub mod Lifts
+pub mod Converts
 pub mod Upgraded
 pub mod Asking
 pub mod Endings
@@ -23,5 +24,5 @@ pub mod Sessions
 pub mod Complete
 pub mod Plain
 pub mod Causing
-pub mod Crashing
+pub mod Runs
 pub mod Unkept

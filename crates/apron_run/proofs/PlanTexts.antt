@@ -9,15 +9,14 @@ use Rattle.history_core.proofs.Replay.{replay-airport}
 use Rattle.apron_check.specs.declared.files.AirportFiles.{AirportFiles}
 use Rattle.apron_check.specs.declared.faults.FilesFault.TheVariants.{Memory}
 use Rattle.desk_workers.specs.Watched.{FeedTexts}
-use Rattle.apron_run.specs.Chart.{ChartsDay, ChartsFiles, ChartsNamed, IsChart, day_named}
-use Rattle.apron_run.specs.Export.{ExportsFiles, IsSeason}
-use Rattle.apron_run.specs.PlanText.{MeetsText, PrintsText, TellsText}
+use Rattle.apron_run.specs.Chart.{IsChart, day_named}
+use Rattle.apron_run.specs.Export.{IsSeason}
 use Rattle.apron_run.specs.Print.{usage_text}
-use Rattle.apron_run.specs.Propose.{IsProposed, ProposesFiles}
-use Rattle.apron_run.specs.Run.{RunsAs}
+use Rattle.apron_run.specs.Propose.{IsProposed}
+use Rattle.apron_run.specs.Carried.{CarriedAs, ChartsDay, ChartsFiles, ChartsNamed, ExportsFiles, MeetsText, PrintsText, ProposesFiles, SinkAndDisk, TellsText, sink_and_disk}
 use Rattle.apron_run.specs.Statuses.{exit_code}
 use Rattle.apron_run.specs.Words.{chart as chart_asked, export as export_asked, propose as propose_asked}
-use Rattle.apron_run.specs.World.{DiskSeen, SinkAndDisk, World, sink_and_disk}
+use Rattle.apron_run.specs.World.{World}
 use Rattle.apron_run.specs.declared.status.Status.{Status}
 use Rattle.apron_run.specs.declared.status.Status.TheVariants.{Usage}
 use Rattle.apron_run.specs.declared.unusable.Unusable.{Unusable}
@@ -30,8 +29,8 @@ plan_airport airport of history plan same is = same ∙ sym (ap (λ (p : PlanSta
 module _ (Answers : AirportParts → List Entry → List ℕ → Type 0) where
   met_counted : (files : AirportFiles) (before after : SinkAndDisk) (met : Result (Result (List ℕ) Wanting) Unusable) (status : Status)
       → MeetsText Answers files before.disk after.disk met → TellsText met before.sink after.sink status → Counted false status before after
-  met_counted files before after (Ok (Ok text)) status meets tells = text_counted before after status text meets.counts tells
-  met_counted files before after (Ok (Err wanting)) status meets tells = fault_counted before after status Memory meets.counts tells
+  met_counted files before after (Ok (Ok text)) status meets tells = text_counted before after status text meets.unwritten.faults tells
+  met_counted files before after (Ok (Err wanting)) status meets tells = fault_counted before after status Memory meets.unwritten.faults tells
   met_counted files before after (Err why) status meets tells =
       unusable_counted before after status why (why_disk files before.disk after.disk why meets.cause) tells
 
@@ -40,29 +39,29 @@ module _ (Answers : AirportParts → List Entry → List ℕ → Type 0) where
 
 -- a run of the word `export`
 pub export_as : {feeds : FeedTexts} (airport types : List ℕ) (before after : World) (status : Status) → after.source ≡ before.source → ExportsFiles airport types before after status
-    → RunsAs feeds (export_asked airport types) before after (exit_code status)
+    → CarriedAs feeds (export_asked airport types) before after (exit_code status)
 export_as airport types before after status =
     files_as (PrintsText IsSeason) (export_asked airport types) airport types before after status
     (λ files. prints_counted IsSeason files (sink_and_disk before) (sink_and_disk after) status) (λ does. does) (λ counts. counts)
 
 -- a run of the word `propose`
 pub propose_as : {feeds : FeedTexts} (airport types desk : List ℕ) (draft : ℕ) (before after : World) (status : Status) → after.source ≡ before.source
-    → ProposesFiles airport types desk draft before after status → RunsAs feeds (propose_asked airport types desk draft) before after (exit_code status)
+    → ProposesFiles airport types desk draft before after status → CarriedAs feeds (propose_asked airport types desk draft) before after (exit_code status)
 propose_as airport types desk draft before after status =
     files_as (PrintsText (IsProposed desk draft)) (propose_asked airport types desk draft) airport types before after status
     (λ files. prints_counted (IsProposed desk draft) files (sink_and_disk before) (sink_and_disk after) status) (λ does. does) (λ counts. counts)
 
 day_counted : (files : AirportFiles) (day : Option ℕ) (before after : SinkAndDisk) (status : Status) → ChartsDay files day before after status → Counted false status before after
 day_counted files (Some day) before after status charts = prints_counted (IsChart day) files before after status charts
-day_counted files None before after status (disk, tells) =
-    line_counted before after status usage_text Usage false (record { told = refl; shelf = refl; read = refl }) (ap (λ (d : DiskSeen). d.faults) disk) tells
+day_counted files None before after status (unwritten, tells) =
+    line_counted before after status usage_text Usage false (record { told = refl; shelf = refl; read = refl }) unwritten.faults tells
 
 pub chart_counted : (day : List ℕ) (files : AirportFiles) (before after : SinkAndDisk) (status : Status) → ChartsNamed day files before after status → Counted false status before after
 chart_counted day files before after status charts = day_counted files (day_named files.airport day) before after status charts
 
 -- a run of the word `chart`
 pub chart_as : {feeds : FeedTexts} (airport types day : List ℕ) (before after : World) (status : Status) → after.source ≡ before.source → ChartsFiles airport types day before after status
-    → RunsAs feeds (chart_asked airport types day) before after (exit_code status)
+    → CarriedAs feeds (chart_asked airport types day) before after (exit_code status)
 chart_as airport types day before after status =
     files_as (ChartsNamed day) (chart_asked airport types day) airport types before after status
     (λ files. chart_counted day files (sink_and_disk before) (sink_and_disk after) status) (λ does. does) (λ counts. counts)

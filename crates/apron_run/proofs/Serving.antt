@@ -1,10 +1,11 @@
 -- A session on a journal: what it begins with, and what it leaves on the disk.
-use Rattle.std.proofs.Common.{◌≡◌, ◌≤◌, ◌+◌, ◌-◌, ◌∙◌, ℕ, Bool, true, List, [], ◌∷◌, length, inl, inr, refl, sym, ap, subst, arith, Option, None, Some, Ok}
+use Rattle.std.proofs.Common.{◌≡◌, ◌≤◌, ◌+◌, ◌-◌, ◌∙◌, ℕ, Bool, true, false, List, [], ◌∷◌, length, inl, inr, refl, sym, ap, subst, arith, Option, None, Some, Ok}
 use Rattle.std.specs.Prelude.{IfSome}
 use Rattle.std.specs.Option.{option_and_then, option_map}
 use Rattle.std.specs.Result.{result_ok}
 use Rattle.std.proofs.lemmas.List.{map-append}
 use Rattle.std.proofs.lemmas.Bool.{eqb-true}
+use Rattle.apron_base.specs.Counts.{Counts}
 use Rattle.apron_base.specs.Keeper.{KeeperState, with_last}
 use Rattle.apron_base.specs.Machine.{MachineState}
 use Rattle.apron_rules.specs.declared.parts.AirportParts.{AirportParts}
@@ -22,7 +23,7 @@ use Rattle.desk_http.specs.Alone.{AloneAsks, numbers_from, port_over}
 use Rattle.desk_http.specs.Answers.{Sent, exhausted}
 use Rattle.desk_http.specs.FedSession.{FedSessionOf}
 use Rattle.desk_http.specs.Ports.{PortState}
-use Rattle.desk_http.specs.Session.{EndsAfter, Last, Moment, Progress, SessionBy, nothing, refusal, reply}
+use Rattle.desk_http.specs.Session.{EndsAfter, Last, SessionState, Progress, SessionBy, nothing, refusal, reply}
 use Rattle.watch_list.specs.WatchBoards.{WatchHeld, watch_fixed, watch_state}
 use Rattle.watch_list.specs.declared.note.Note.{Note}
 use Rattle.watch_list.specs.declared.watch.Watched.{Watched}
@@ -34,23 +35,24 @@ use Rattle.desk_http.proofs.OneDesk.{length-numbers_from}
 use Rattle.history_core.proofs.Keepers.{spells_with}
 use Rattle.journal_disk.specs.Disk.{DiskState, IfExposed}
 use Rattle.journal_disk.specs.Extent.{Extent, IsCrashSafe, StandsFor, entries_within, entry_at_risk, keeper_of}
-use Rattle.journal_disk.specs.Faults.{OpenFails}
 use Rattle.journal_disk.specs.Header.{digests_in, opening_of}
-use Rattle.journal_disk.specs.declared.fault.JournalFault.{JournalFault}
 use Rattle.journal_disk.specs.declared.fault.JournalFault.TheVariants as journal
 use Rattle.apron_check.specs.declared.files.AirportFiles.{AirportFiles}
-use Rattle.apron_run.specs.Desk.{DeskAnswers, ServedCounts, ServesDesk, moment, new_port}
+use Rattle.apron_run.specs.Desk.{DeskAnswers, ServedCounts, ServesDesk, session_state, new_port}
 use Rattle.apron_run.specs.Headline.{Sends}
-use Rattle.apron_run.specs.Journal.{FailsToOpen, Holds, IsOf, IsOpened, KeepsHistory, WhyUnusable}
-use Rattle.apron_run.specs.World.{DeskEnds, DiskSeen, disk_seen}
+use Rattle.apron_run.specs.Journal.{IsOf, KeepsHistory, NotOpened, OpensTo, WhyUnusable}
+use Rattle.apron_run.specs.Opened.{IsOpened}
+use Rattle.apron_run.specs.World.{Unwritten, World}
 use Rattle.apron_run.specs.Statuses.{may_serve, status_of_outcome}
+use Rattle.apron_run.specs.Survival.{Survives}
 use Rattle.apron_run.specs.Unusable.{status_of_unusable}
 use Rattle.apron_run.specs.declared.status.Status.{Status}
 use Rattle.apron_run.specs.declared.unusable.Unusable.{Unusable}
 use Rattle.apron_run.specs.declared.unusable.Unusable.TheVariants.{Journal, Entries}
 use Rattle.apron_run.proofs.Calls.{comes_leaves, run_leaves}
-use Rattle.apron_run.proofs.Disks.{if_told, known}
+use Rattle.apron_run.proofs.Disks.{known}
 use Rattle.apron_run.proofs.Feeding.{finds_spent, not_read}
+use Rattle.apron_run.proofs.Fronts.{stays_both}
 
 -- the bytes of one entry more
 texts_with : (history : List Entry) (entry : Entry) → with_last (entry_text entry) (entry_texts history) ≡ entry_texts (with_last entry history)
@@ -68,9 +70,9 @@ module _ (files : AirportFiles) (history : List Entry) (extent : Extent) (disk :
   behind = entry_behind files.airport (keeper_of extent disk)
 
   -- a disk that does not tell what it reads as may keep any history
-  keeps_untold : disk.contents ≡ None → KeepsHistory files history behind (disk_seen disk)
+  keeps_untold : disk.contents ≡ None → KeepsHistory files history behind disk
   keeps_untold untold =
-      let holds : Holds files (disk_seen disk) history =
+      let holds : OpensTo files disk history =
       record {
         legal = legal;
         entries = subst (λ (c : Option (List ℕ)). IfSome c (λ bytes. opening_of files.digests bytes ≡ Ok (entry_texts history))) (sym untold) tt;
@@ -81,7 +83,7 @@ module _ (files : AirportFiles) (history : List Entry) (extent : Extent) (disk :
   module _ (bytes : List ℕ) (is : disk.contents ≡ Some bytes) (of : IsOf files.digests bytes) where
     -- the disk holds a history whose entries its bytes have
     holds_just : (others : List Entry) → IsLegal files.airport others → Spells files.airport (entry_texts others) others
-        → opening_of (digests_in bytes) bytes ≡ Ok (entry_texts others) → Holds files (disk_seen disk) others
+        → opening_of (digests_in bytes) bytes ≡ Ok (entry_texts others) → OpensTo files disk others
     holds_just others legal spells opening = record {
       legal = legal;
       spells = spells;
@@ -94,9 +96,9 @@ module _ (files : AirportFiles) (history : List Entry) (extent : Extent) (disk :
         (ap (option_map (entries_within extent)) is)
 
     -- a disk whose bytes are those of the journal keeps its history
-    keeps_told : StandsFor extent bytes (λ entry. entry_at_risk extent disk.contents ≡ Some entry) bytes → KeepsHistory files history behind (disk_seen disk)
+    keeps_told : StandsFor extent bytes (λ entry. entry_at_risk extent disk.contents ≡ Some entry) bytes → KeepsHistory files history behind disk
     keeps_told (front, inl opening) =
-        let holds : Holds files (disk_seen disk) history = holds_just history legal kept.spells (opening ∙ ap Ok are) in
+        let holds : OpensTo files disk history = holds_just history legal kept.spells (opening ∙ ap Ok are) in
         record { holds = inl holds; exact = λ none. holds }
     keeps_told (front, inr (risk, at, opening)) =
         let next : IsNextText files.airport history risk = known (entry_at_risk extent disk.contents) (IsNextText files.airport history) risk kept.at_risk at in
@@ -113,7 +115,7 @@ module _ (files : AirportFiles) (history : List Entry) (extent : Extent) (disk :
         }
 
   -- the disk of a journal that keeps a history keeps it
-  pub disk_keeps : IfExposed disk (disk.images disk.moment) → IsCrashSafe extent disk → IfSome disk.contents (IsOf files.digests) → KeepsHistory files history behind (disk_seen disk)
+  pub disk_keeps : IfExposed disk (disk.images disk.moment) → IsCrashSafe extent disk → IfSome disk.contents (IsOf files.digests) → KeepsHistory files history behind disk
   disk_keeps reads safe of = told_or disk.contents keeps_untold
       (λ bytes is. keeps_told bytes is (known disk.contents (IsOf files.digests) bytes of is) (safe bytes is bytes (reads bytes is)))
 
@@ -133,11 +135,44 @@ alone_spent machine first below spent =
     let size : length (numbers_from first (machine.next - first)) ≡ machine.next - first = length-numbers_from first (machine.next - first) in
     omega arith
 
--- why a disk isn't opened, by what is seen of it
-pub seen_fails : (digests : List ℕ) (before after : DiskState) (fault : JournalFault) → OpenFails digests before after fault → FailsToOpen digests (disk_seen before) (disk_seen after) fault
-seen_fails digests before after journal.DiskFault fails = fails
-seen_fails digests before after journal.NotEmpty fails = fails
-seen_fails digests before after fault (counts, told) = (counts, if_told before.contents _ told)
+-- a board that was opened after nothing was written was opened over the disk as it was before
+pub opened_from : {K : Type 0} (tells : K → KeeperState) (files : AirportFiles) (begun disk : DiskState) (board : BoardHeld K) → Unwritten begun disk
+    → IsOpened tells files disk board → IsOpened tells files begun board
+opened_from tells files begun disk board same opened =
+    let stays = same.stays in
+    let opens = opened.opens in
+    record {
+      airport_is = opened.airport_is;
+      opens = record {
+        legal = opens.legal;
+        entries = subst (λ (c : Option (List ℕ)). IfSome c (λ bytes. opening_of files.digests bytes ≡ Ok (entry_texts board.history))) stays.contents opens.entries;
+        spells = opens.spells;
+      };
+      next = opened.next;
+      at_risk = opened.at_risk;
+      faults = opened.faults ∙ same.faults;
+    }
+
+-- and so is one that was not opened
+module _ (files : AirportFiles) (begun before after : DiskState) (same : Unwritten begun before) where
+  counts_from : (failed : Bool) → Counts failed before.faults after.faults → Counts failed begun.faults after.faults
+  counts_from failed counts = subst (λ (n : ℕ). Counts failed n after.faults) same.faults counts
+
+  told_from : (P : List ℕ → Type 0) → IfSome before.contents P → IfSome begun.contents P
+  told_from P holds = subst (λ (c : Option (List ℕ)). IfSome c P) (let stays = same.stays in stays.contents) holds
+
+  why_from : (why : Unusable) → WhyUnusable files before after why → WhyUnusable files begun after why
+  why_from (Journal journal.DiskFault) cause = counts_from true cause
+  why_from (Journal journal.NotEmpty) cause = absurd cause
+  why_from (Journal fault) (counts, fails) = (counts_from false counts, λ bytes is. fails bytes ((let stays = same.stays in stays.contents) ∙ is))
+  why_from (Entries fault) (texts, vain, cannot) = (
+    texts,
+    record { opening = told_from (λ bytes. opening_of files.digests bytes ≡ Ok texts) vain.opening; counts = counts_from false vain.counts },
+    cannot,
+  )
+
+  pub unopened_from : (why : Unusable) → NotOpened files before after why → NotOpened files begun after why
+  unopened_from why finds = record { stays = stays_both begun before after same.stays finds.stays; cause = why_from why finds.cause }
 
 -- the number of the call after a legal history is at most the last
 pub next_below : (low high : ℕ) (history : List Entry) → Rises call_of low high history → next_from low history ≤ high
@@ -186,7 +221,7 @@ module _ (feeds : FeedTexts) (airport : AirportParts) where
   ends_on other done last served after ends = absurd ends.0
 
   -- a whole session
-  pub session_on : (before after : Moment) (outcome : Outcome) → SessionBy (DeskAnswers feeds airport) airport before after outcome
+  pub session_on : (before after : SessionState) (outcome : Outcome) → SessionBy (DeskAnswers feeds airport) airport before after outcome
       → GoesOn before.port after.port
   session_on before after outcome session =
       let done = session.done in
@@ -197,42 +232,43 @@ module _ (feeds : FeedTexts) (airport : AirportParts) where
       record { first = ends.first ∙ leaves.first; faults = omega arith }
 
 -- a session lowers no count
-serves_count : (feeds : FeedTexts) (files : AirportFiles) (before after : DeskEnds) (outcome : Outcome) → ServesDesk feeds files before after outcome
+serves_count : (feeds : FeedTexts) (files : AirportFiles) (before after : World) (outcome : Outcome) → ServesDesk feeds files before after outcome
     → before.disk.faults ≤ after.disk.faults
 serves_count feeds files before after outcome serves =
     let on : GoesOn (new_port serves.opened before.disk.faults) serves.port =
-    session_on feeds files.airport (moment before (new_port serves.opened before.disk.faults)) (moment after serves.port) outcome serves.session in
+    session_on feeds files.airport (session_state before (new_port serves.opened before.disk.faults)) (session_state after serves.port) outcome serves.session in
     let least : before.disk.faults ≤ serves.port.faults = on.faults in
     let counted : serves.port.faults ≡ after.disk.faults = serves.faults in
     omega arith
 
 -- a session of a desk alone over a board that was opened and got these watches, with the disk that
 -- was closed after it
-abbrev pub desk_serves : {K R : Type 0} (tells : K → KeeperState) (shows : R → Note → Bool) (watches : List (Watched R)) (files : AirportFiles) (before after : DeskEnds)
+abbrev pub desk_serves : {K R : Type 0} (tells : K → KeeperState) (shows : R → Note → Bool) (watches : List (Watched R)) (files : AirportFiles) (before after : World)
     (board : BoardHeld K) (start done : AloneMachine (WatchHeld K R)) (outcome : Outcome) → IsOpened tells files before.disk board
     → start.machine ≡ record { board = board; watches = watches; next = board.next } → start.first ≡ board.next
     → FedSessionOf AloneAsks (AloneFeeds (watch_text shows (watch_fixed start.machine))) start.machine.board.airport
-    (moment before (port_over start.first (watch_state tells start.machine))) (moment after (port_over done.first (watch_state tells done.machine))) outcome
+    (session_state before (port_over start.first (watch_state tells start.machine))) (session_state after (port_over done.first (watch_state tells done.machine))) outcome
     → watch_fixed done.machine ≡ watch_fixed start.machine → after.disk.faults ≡ (tells done.machine.board.keeper).faults
     → KeepsHistory (record { airport = done.machine.board.airport; digests = files.digests }) done.machine.board.history
     (entry_behind done.machine.board.airport (tells done.machine.board.keeper)) after.disk
+    → Survives files.digests done.machine.board.history (entry_behind done.machine.board.airport (tells done.machine.board.keeper)) before.disk after.disk
     → ServesDesk (feed_texts shows watches) files before after outcome
-desk_serves {K} {R} tells shows watches files before after board start done outcome opened begins first session fixed counted keeps =
+desk_serves {K} {R} tells shows watches files before after board start done outcome opened begins first session fixed counted keeps survives =
     let feeds : FeedTexts = feed_texts shows watches in
     let fresh : WatchHeld K R = record { board = board; watches = watches; next = board.next } in
-    let last : Moment = moment after (port_over done.first (watch_state tells done.machine)) in
+    let last : SessionState = session_state after (port_over done.first (watch_state tells done.machine)) in
     let safe : entry_behind board.airport (tells board.keeper) ≡ None = ap (option_and_then (λ text. result_ok (decode_entry board.airport text))) opened.at_risk in
     let port_is : port_over start.first (watch_state tells fresh) ≡ new_port board.history before.disk.faults =
     alone_begun (watch_state tells fresh) start.first board.history before.disk.faults refl opened.next (first ∙ opened.next) safe opened.faults in
-    let made : SessionBy (DeskAnswers feeds board.airport) board.airport (moment before (port_over start.first (watch_state tells fresh))) last outcome =
+    let made : SessionBy (DeskAnswers feeds board.airport) board.airport (session_state before (port_over start.first (watch_state tells fresh))) last outcome =
     subst (λ (m : WatchHeld K R). FedSessionOf AloneAsks (AloneFeeds (watch_text shows (watch_fixed m))) m.board.airport
-    (moment before (port_over start.first (watch_state tells m))) last outcome) begins session in
-    let here : SessionBy (DeskAnswers feeds board.airport) board.airport (moment before (new_port board.history before.disk.faults)) last outcome =
-    subst (λ (p : PortState). SessionBy (DeskAnswers feeds board.airport) board.airport (moment before p) last outcome) port_is made in
-    let whole : SessionBy (DeskAnswers feeds files.airport) files.airport (moment before (new_port board.history before.disk.faults)) last outcome =
-    subst (λ (a : AirportParts). SessionBy (DeskAnswers feeds a) a (moment before (new_port board.history before.disk.faults)) last outcome) opened.airport_is here in
+    (session_state before (port_over start.first (watch_state tells m))) last outcome) begins session in
+    let here : SessionBy (DeskAnswers feeds board.airport) board.airport (session_state before (new_port board.history before.disk.faults)) last outcome =
+    subst (λ (p : PortState). SessionBy (DeskAnswers feeds board.airport) board.airport (session_state before p) last outcome) port_is made in
+    let whole : SessionBy (DeskAnswers feeds files.airport) files.airport (session_state before (new_port board.history before.disk.faults)) last outcome =
+    subst (λ (a : AirportParts). SessionBy (DeskAnswers feeds a) a (session_state before (new_port board.history before.disk.faults)) last outcome) opened.airport_is here in
     let on : GoesOn (new_port board.history before.disk.faults) (port_over done.first (watch_state tells done.machine)) =
-    session_on feeds files.airport (moment before (new_port board.history before.disk.faults)) last outcome whole in
+    session_on feeds files.airport (session_state before (new_port board.history before.disk.faults)) last outcome whole in
     let airport : done.machine.board.airport ≡ files.airport =
     ap (λ (f : WatchFixed R). f.airport) (fixed ∙ ap watch_fixed begins) ∙ opened.airport_is in
     let opens = opened.opens in
@@ -248,6 +284,7 @@ desk_serves {K} {R} tells shows watches files before after board start done outc
       faults = sym counted;
       keeps = subst (λ (a : AirportParts). KeepsHistory (record { airport = a; digests = files.digests }) done.machine.board.history
           (entry_behind done.machine.board.airport (tells done.machine.board.keeper)) after.disk) airport keeps;
+      survives = survives;
     }
 
 -- a status before which a session may have come
@@ -260,13 +297,13 @@ outcomes_may came.Memory = refl
 outcomes_may outcome = refl
 
 -- the counts of a session that ends with this status
-pub session_counts : (feeds : FeedTexts) (files : AirportFiles) (before after : DeskEnds) (outcome : Outcome) (status : Status) → ServesDesk feeds files before after outcome
+pub session_counts : (feeds : FeedTexts) (files : AirportFiles) (before after : World) (outcome : Outcome) (status : Status) → ServesDesk feeds files before after outcome
     → status ≡ status_of_outcome outcome → ServedCounts status before.disk.faults after.disk.faults
 session_counts feeds files before after outcome status serves is =
     may_tell status before.disk.faults after.disk.faults (ap may_serve is ∙ outcomes_may outcome) (serves_count feeds files before after outcome serves)
 
 -- the counts if there was no journal to work on
-pub why_counts : (files : AirportFiles) (before after : DiskSeen) (why : Unusable) → WhyUnusable files before after why
+pub why_counts : (files : AirportFiles) (before after : DiskState) (why : Unusable) → WhyUnusable files before after why
     → ServedCounts (status_of_unusable why) before.faults after.faults
 why_counts files before after (Journal journal.DiskFault) cause = cause
 why_counts files before after (Journal journal.NotEmpty) cause = absurd cause

@@ -26,16 +26,17 @@ use Rattle.desk_http.specs.Answers.{SendsFor, Sent, at_once, fed, given}
 use Rattle.desk_http.specs.Complete.{AnswersEachBy, ComesToEnd, IsUnhindered}
 use Rattle.desk_http.specs.Ports.{PortState}
 use Rattle.desk_http.specs.Runs.{Runs}
-use Rattle.desk_http.specs.Session.{EndsAfter, Last, Moment, SessionBy, most_requests, nothing, refusal, reply}
+use Rattle.desk_http.specs.Session.{EndsAfter, Last, SessionState, SessionBy, most_requests, nothing, refusal, reply}
 use Rattle.desk_workers.specs.Watched.{FeedTexts}
 use Rattle.desk_http.proofs.Complete.{GoesOnBehind, listed_behind, sessions_complete_by}
 use Rattle.desk_http.proofs.OneDesk.{length-numbers_from}
 use Rattle.apron_check.specs.declared.files.AirportFiles.{AirportFiles}
 use Rattle.apron_run.specs.Complete.{EndsInTime, HasFiles, HasInput, HasJournal, NoneFails, count_of_asks}
-use Rattle.apron_run.specs.Desk.{DeskAnswers, MeetsDesk, PrintsSessionEnd, RunsDesk, RunsFound, ServesDesk, TellsOutcome, moment, new_port}
+use Rattle.apron_run.specs.Desk.{DeskAnswers, ServesDesk, session_state, new_port}
 use Rattle.apron_run.specs.Headline.{Sends, is_given, takes_number}
 use Rattle.apron_run.specs.Statuses.{status_of_outcome}
-use Rattle.apron_run.specs.World.{DeskEnds, World, desk_ends}
+use Rattle.apron_run.specs.World.{World}
+use Rattle.apron_run.specs.Carried.{MeetsDesk, PrintsSessionEnd, RunsDesk, RunsFound, TellsOutcome}
 use Rattle.apron_run.specs.declared.status.Status.{Status}
 use Rattle.apron_run.specs.declared.status.Status.TheVariants.{Done}
 use Rattle.apron_run.specs.declared.unusable.Unusable.{Unusable}
@@ -92,7 +93,7 @@ first_listed bytes request behind (first ∷ more) ending whole reads =
     let same = HasRequest-unique bytes request first behind reads.0 whole reads.1 in (more, ap (λ (r : Request). r ∷ more) (sym same.0))
 
 -- no session finds its call numbers used up that has enough of them for its input
-module _ (feeds : FeedTexts) (airport : AirportParts) (before after : Moment) (input : List ℕ) (told : before.source.left ≡ Some input) (listed : List Request) (ending : Ending)
+module _ (feeds : FeedTexts) (airport : AirportParts) (before after : SessionState) (input : List ℕ) (told : before.source.left ≡ Some input) (listed : List Request) (ending : Ending)
     (reads : Requests input listed ending) (session : SessionBy (DeskAnswers feeds airport) airport before after came.Spent) (none : before.port.calls ≡ [])
     (used : after.port.spent ≡ true → after.port.first + length after.port.calls ≡ call_limit)
     (numbers : before.port.first + count_of_asks airport listed ≤ call_limit) where
@@ -173,16 +174,16 @@ module _ (input : List ℕ) (listed : List Request) where
   comes_to_done other ending requests last reads ends are to = absurd to
 
 -- a session on a journal
-module _ (feeds : FeedTexts) (made : AirportFiles) (history : List Entry) (before after : DeskEnds) (mid : SinkState) (status : Status) (has : HasJournal made before.disk history)
+module _ (feeds : FeedTexts) (made : AirportFiles) (history : List Entry) (before after : World) (mid : SinkState) (status : Status) (has : HasJournal made before.disk history)
     (valid : HasInput made.airport before.source history) (source : ¬ (Rose before.source.faults after.source.faults)) (sink : ¬ (Rose before.sink.faults after.sink.faults))
     (disk : ¬ (Rose before.disk.faults after.disk.faults)) where
   -- that had memory and call numbers enough
   other_well : (outcome : Outcome) → outcome ≢ came.Memory → outcome ≢ came.Spent
-      → ServesDesk feeds made before (record { source = after.source; sink = mid; disk = after.disk }) outcome
+      → ServesDesk feeds made before (record after { sink = mid }) outcome
       → (after.sink ≡ mid) × (status ≡ status_of_outcome outcome) → Well status
   other_well outcome memory spent serves (same, is) =
-      let start : Moment = moment before (new_port serves.opened before.disk.faults) in
-      let end : Moment = moment (record { source = after.source; sink = mid; disk = after.disk }) serves.port in
+      let start : SessionState = session_state before (new_port serves.opened before.disk.faults) in
+      let end : SessionState = session_state (record after { sink = mid }) serves.port in
       let free : IsUnhindered start end outcome = record {
         memory = memory;
         numbers = spent;
@@ -194,28 +195,28 @@ module _ (feeds : FeedTexts) (made : AirportFiles) (history : List Entry) (befor
       inl (is ∙ comes_to_done valid.input valid.requests outcome valid.ending each.requests each.last valid.reads valid.ends
       (each.each valid.requests valid.ending valid.reads) each.ends)
 
-  numbers_last : ServesDesk feeds made before (record { source = after.source; sink = mid; disk = after.disk }) came.Spent → ⊥
+  numbers_last : ServesDesk feeds made before (record after { sink = mid }) came.Spent → ⊥
   numbers_last serves =
       let same : serves.opened ≡ history = opened_once made before.disk after.disk history has serves.opened serves.opens in
-      spent_never feeds made.airport (moment before (new_port serves.opened before.disk.faults))
-      (moment (record { source = after.source; sink = mid; disk = after.disk }) serves.port) valid.input valid.told valid.requests valid.ending valid.reads serves.session refl serves.spent
+      spent_never feeds made.airport (session_state before (new_port serves.opened before.disk.faults))
+      (session_state (record after { sink = mid }) serves.port) valid.input valid.told valid.requests valid.ending valid.reads serves.session refl serves.spent
       (subst (λ (es : List Entry). next_after es + count_of_asks made.airport valid.requests ≤ call_limit) (sym same) valid.numbers)
 
-  session_well : (outcome : Outcome) → ServesDesk feeds made before (record { source = after.source; sink = mid; disk = after.disk }) outcome
+  session_well : (outcome : Outcome) → ServesDesk feeds made before (record after { sink = mid }) outcome
       → TellsOutcome outcome mid after.sink status → Well status
   session_well came.Memory serves tells = memory_well mid after.sink status tells
   session_well came.Spent serves tells = absurd (numbers_last serves)
   session_well other serves tells = other_well other (λ is. cc) (λ is. cc) serves tells
 
-  pub met_well : (met : Result Outcome Unusable) → MeetsDesk feeds made before (record { source = after.source; sink = mid; disk = after.disk }) met
+  pub met_well : (met : Result Outcome Unusable) → MeetsDesk feeds made before (record after { sink = mid }) met
       → PrintsSessionEnd met mid after.sink status → Well status
   met_well (Ok outcome) meets tells = session_well outcome meets tells
-  met_well (Err why) meets tells = unopened_well why mid after.sink status (unopened_wants made before.disk after.disk history has why meets.disk disk) tells
+  met_well (Err why) meets tells = unopened_well why mid after.sink status (unopened_wants made before.disk after.disk history has why meets.uses disk) tells
 
 -- a run of the word `desk`
 pub desk_well : (feeds : FeedTexts) (made : AirportFiles) (history : List Entry) (airport types : List ℕ) (before after : World) (status : Status) → HasFiles before.shelf airport types made
     → HasJournal made before.disk history → HasInput made.airport before.source history → NoneFails before after → RunsDesk feeds airport types before after status → Well status
 desk_well feeds made history airport types before after status has journal valid free runs =
-    goes_well made before.shelf after.shelf airport types has free.shelf (λ found. RunsFound feeds found (desk_ends before) (desk_ends after) status) status
-    (λ does. met_well feeds made history (desk_ends before) (desk_ends after) does.sink status journal valid free.source free.sink free.disk does.met does.meets does.tells)
+    goes_well made before.shelf after.shelf airport types has free.shelf (λ found. RunsFound feeds found (record before { shelf = after.shelf }) after status) status
+    (λ does. met_well feeds made history (record before { shelf = after.shelf }) after does.sink status journal valid free.source free.sink free.disk does.met does.meets does.tells)
     (λ does. memory_well before.sink after.sink status does.2) runs.found runs.finds runs.runs

@@ -1,5 +1,5 @@
 -- A journal that was upgraded: what its disk reads as, and what a crash leaves of it.
-use Rattle.std.proofs.Common.{◌≡◌, ◌∙◌, inl, inr, ℕ, Bool, true, false, not, List, length, take, refl, sym, ap, subst, Option, None, Some, Result, Ok}
+use Rattle.std.proofs.Common.{◌≡◌, ◌∙◌, inl, inr, ℕ, Bool, true, false, not, List, length, refl, sym, ap, subst, Option, None, Some, Result, Ok}
 use Rattle.std.specs.Prelude.{IfSome, cond, ◌||◌}
 use Rattle.std.specs.Str.{bytes_eq}
 use Rattle.std.proofs.lemmas.Slice.Eq.{bytes_eq-Decides}
@@ -10,22 +10,21 @@ use Rattle.journal_disk.specs.Disk.{Between, Continues, DiskState, IfExposed, Is
 use Rattle.journal_disk.specs.Entries.{records}
 use Rattle.journal_disk.specs.Faults.{OldOpenFails, OldTextFails}
 use Rattle.journal_disk.specs.Found.{disk_found, old_found}
-use Rattle.journal_disk.specs.Header.{as_old, behind_part, digests_in, has_magic, is_new, old_opening_of, opening_of, unless}
-use Rattle.journal_disk.specs.Switch.{HasSwitched, IsEither, SwitchesSafely, after_switch, with_format}
+use Rattle.journal_disk.specs.Header.{as_old, digests_in, has_magic, is_new, old_opening_of, opening_of, unless}
+use Rattle.journal_disk.specs.Switch.{HasSwitched, IsEither, SwitchesSafely, after_switch}
 use Rattle.journal_disk.specs.declared.fault.JournalFault.{JournalFault}
 use Rattle.journal_disk.specs.declared.fault.JournalFault.TheVariants as journal
 use Rattle.journal_disk.specs.declared.upgrade.Found.{Found}
 use Rattle.apron_check.specs.declared.files.AirportFiles.{AirportFiles}
 use Rattle.apron_run.specs.Journal.{IsOf}
-use Rattle.apron_run.specs.Survival.{DiskStates}
-use Rattle.apron_run.specs.Upgrade.{HasLifted, HasUpgraded, NotUpgraded, switched}
-use Rattle.apron_run.specs.UpgradeCrash.{IsOldOrNew, LeavesEither, LeavesFailed, LeavesUpgraded}
-use Rattle.apron_run.specs.World.{disk_seen}
+use Rattle.apron_run.specs.Converted.{HasConverted}
+use Rattle.apron_run.specs.Upgrade.{HasUpgraded, NotUpgraded}
+use Rattle.apron_run.specs.UpgradeCrash.{LeavesEither, switched}
 use Rattle.apron_run.specs.declared.unusable.Unusable.TheVariants.{Journal}
 use Rattle.apron_run.proofs.Disks.{if_told}
 use Rattle.apron_run.proofs.Fronts.{alike_both, alike_same, stays_from}
 use Rattle.apron_run.proofs.Headers.{told_before}
-use Rattle.apron_run.proofs.Lifts.{lifted_count, texts_are}
+use Rattle.apron_run.proofs.Converts.{converted_count, texts_are}
 
 -- a journal of format 1 has passed the test of its digests, and its format byte is not that of
 -- format 2
@@ -44,12 +43,12 @@ old_header digests bytes old is =
 
 -- a journal that was not opened
 pub not_opened : (files : AirportFiles) (before after : DiskState) (fault : JournalFault) → OldOpenFails files.digests before after fault → Stays before after
-    → NotUpgraded files (disk_seen before) (disk_seen after) (Journal fault)
-not_opened files before after journal.DiskFault fails stays = fails
+    → NotUpgraded files before after (Journal fault)
+not_opened files before after journal.DiskFault fails stays = (fails, inl stays)
 not_opened files before after journal.NotEmpty fails stays = absurd fails
 not_opened files before after journal.OldFormat fails stays = absurd fails
 not_opened files before after fault (counts, told) stays =
-    (record { contents = stays.contents; counts = counts }, if_told before.contents (λ bytes. OldTextFails files.digests bytes fault) told)
+    (record { stays = stays; faults = counts }, if_told before.contents (λ bytes. OldTextFails files.digests bytes fault) told)
 
 -- what is told after is made of what was told before
 told_as : (f : List ℕ → List ℕ) (before after : Option (List ℕ)) → Between (λ _ _. Unit {0}) before after → ((bytes now : List ℕ) → before ≡ Some bytes → after ≡ Some now → now ≡ f bytes)
@@ -58,11 +57,6 @@ told_as f None None alike same = refl
 told_as f None (Some now) alike same = absurd alike
 told_as f (Some bytes) None alike same = absurd alike
 told_as f (Some bytes) (Some now) alike same = ap (λ b. Some b) (same bytes now refl refl)
-
--- and a crash leaves what it could leave before
-pub leaves_unopened : (files : AirportFiles) (fault : JournalFault) (disk : DiskStates) → Stays disk.before disk.after → LeavesFailed files (Journal fault) disk
-leaves_unopened files journal.DiskFault disk stays = inl stays
-leaves_unopened files fault disk stays = stays
 
 -- what is known of a disk whose journal was opened, and of what was found on it
 abbrev pub IsFound : {D : Type 0} → (D → DiskState) → List ℕ → D → Found D → Type 0
@@ -78,25 +72,23 @@ module _ (files : AirportFiles) (before opened after : DiskState) (size : ℕ) (
   digests_are bytes is = (old_header files.digests bytes old (was bytes is)).0
 
   -- what a crash leaves of it at any moment
-  pub leaves_either : LeavesEither files.digests old new (record { before = before; after = after })
+  pub leaves_either : LeavesEither old new before after
   leaves_either = record {
     tells = alike_both before.contents opened.contents after.contents (alike_same before.contents opened.contents stays.contents) goes.tells;
     moment = opened.moment;
     order = (stays.crash.clock.later, goes.clock.later);
     earlier = λ moment image low high left. stays_from before opened stays moment image low high (goes.clock.past moment image high left);
     later = λ bytes is moment image low high left.
-        let either : IsEither size old new bytes image = safe bytes (stays.contents ∙ is) moment image low high left in
-        subst (λ (ds : List ℕ). IsOldOrNew ds old new bytes image) (digests_are bytes is)
-        (subst (λ (n : ℕ). (format : ℕ) × (take (behind_part n) image ≡ with_format format (take (behind_part n) bytes))) sized either.keeps, either.opens);
+        subst (λ (n : ℕ). IsEither n old new bytes image) sized (safe bytes (stays.contents ∙ is) moment image low high left);
   }
 
   -- the disk failed
-  pub stopped : (fault : JournalFault) → fault ≡ journal.DiskFault → HasLifted files.airport old new → Counts false before.faults opened.faults
+  pub stopped : (fault : JournalFault) → fault ≡ journal.DiskFault → HasConverted files.airport old new → Counts false before.faults opened.faults
       → Counts true opened.faults after.faults
-      → NotUpgraded files (disk_seen before) (disk_seen after) (Journal fault) × LeavesFailed files (Journal fault) (record { before = before; after = after })
-  stopped fault is lifted first second =
-      subst (λ (f : JournalFault). NotUpgraded files (disk_seen before) (disk_seen after) (Journal f) × LeavesFailed files (Journal f) (record { before = before; after = after }))
-      (sym is) (subst (λ (n : ℕ). Counts true n after.faults) first second, inr (old, new, lifted.lifts, was, leaves_either))
+      → NotUpgraded files before after (Journal fault)
+  stopped fault is converted first second =
+      subst (λ (f : JournalFault). NotUpgraded files before after (Journal f))
+      (sym is) (subst (λ (n : ℕ). Counts true n after.faults) first second, inr (old, new, converted.converts, was, leaves_either))
 
   module _ (done : IfExposed opened (λ bytes. HasSwitched size new bytes after)) where
     -- once it was switched
@@ -106,38 +98,36 @@ module _ (files : AirportFiles) (before opened after : DiskState) (size : ℕ) (
         ap (opening_of files.digests) (has.safe image left)
         ∙ subst (λ (ds : List ℕ). opening_of ds (after_switch size new bytes) ≡ Ok new) (digests_are bytes is) has.opens
 
-    -- and what a crash leaves then is what was there with the new part
+    -- and what a crash leaves then is what was there with the new section
     switched_safe : (bytes : List ℕ) → before.contents ≡ Some bytes → IsSafe (switched old new bytes) after
     switched_safe bytes is image left =
         let has : HasSwitched size new bytes after = done bytes (stays.contents ∙ is) in
         has.safe image left ∙ ap (λ (n : ℕ). after_switch n new bytes) sized
 
-    -- it has the lifted entries, in what its disk reads as and in what a crash leaves
-    pub upgraded : (count : ℕ) → HasLifted files.airport old new → IfExposed after (after.images after.moment) → Counts false before.faults after.faults → count ≡ length new
-        → (has : HasUpgraded files (disk_seen before) (disk_seen after) count)
-        × LeavesUpgraded files.digests has.old has.new (record { before = before; after = after })
-    upgraded count lifted reads counts count_is =
+    -- it has the converted entries, in what its disk reads as and in what a crash leaves
+    pub upgraded : (count : ℕ) → HasConverted files.airport old new → IfExposed after (after.images after.moment) → Counts false before.faults after.faults → count ≡ length new
+        → HasUpgraded files before after count
+    upgraded count converted reads counts count_is =
         let Has : List ℕ → Type 0 = λ bytes. opening_of files.digests bytes ≡ Ok new in
         let has : IfSome after.contents Has = if_told after.contents Has (λ now here.
         let (mid, there) = told_before opened.contents after.contents now goes.tells here in
-        switched_opens mid (sym stays.contents ∙ there) now (reads now here)) in (
-          record {
-            old = old;
-            new = new;
-            format = if_told before.contents (λ bytes. is_new bytes ≡ false) (λ bytes is. (old_header files.digests bytes old (was bytes is)).1);
-            was = if_told before.contents (λ bytes. old_opening_of files.digests bytes ≡ Ok (Some old)) was;
-            lifts = lifted.lifts;
-            has = has;
-            keeps = told_as (switched old new) before.contents after.contents leaves_either.tells (λ bytes now was is. switched_safe bytes was now (reads now is));
-            same = λ history reads_as.
-                let texts : new ≡ entry_texts history = texts_are files.airport old new history lifted.lifts reads_as.spells in
-                record {
-                  legal = reads_as.legal;
-                  entries = subst (λ (es : List (List ℕ)). IfSome after.contents (λ bytes. opening_of files.digests bytes ≡ Ok es)) texts has;
-                  spells = subst (λ (es : List (List ℕ)). Spells files.airport es history) texts (lifted.reads ∙ reads_as.spells);
-                };
-            count_is = count_is ∙ lifted_count files.airport old new lifted.lifts;
-            counts = counts;
-          },
-          record { either = leaves_either; last = switched_opens; safe = switched_safe },
-        )
+        switched_opens mid (sym stays.contents ∙ there) now (reads now here)) in
+        record {
+          old = old;
+          new = new;
+          format = if_told before.contents (λ bytes. is_new bytes ≡ false) (λ bytes is. (old_header files.digests bytes old (was bytes is)).1);
+          was = if_told before.contents (λ bytes. old_opening_of files.digests bytes ≡ Ok (Some old)) was;
+          converts = converted.converts;
+          has = has;
+          keeps = told_as (switched old new) before.contents after.contents leaves_either.tells (λ bytes now was is. switched_safe bytes was now (reads now is));
+          same = λ history reads_as.
+              let texts : new ≡ entry_texts history = texts_are files.airport old new history converted.converts reads_as.spells in
+              record {
+                legal = reads_as.legal;
+                entries = subst (λ (es : List (List ℕ)). IfSome after.contents (λ bytes. opening_of files.digests bytes ≡ Ok es)) texts has;
+                spells = subst (λ (es : List (List ℕ)). Spells files.airport es history) texts (converted.reads ∙ reads_as.spells);
+              };
+          count_is = count_is ∙ converted_count files.airport old new converted.converts;
+          counts = counts;
+          leaves = record { either = leaves_either; last = switched_opens; safe = switched_safe };
+        }

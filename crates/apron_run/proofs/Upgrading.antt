@@ -2,6 +2,7 @@
 use Rattle.std.proofs.Common.{◌≡◌, ◌∙◌, ℕ, List, false, refl, sym, subst, Option, None, Some, Result, Ok, Err}
 use Rattle.std.specs.Prelude.{IfSome}
 use Rattle.apron_base.specs.Counts.{Counts, Rose}
+use Rattle.journal_disk.specs.Disk.{DiskState}
 use Rattle.journal_disk.specs.Header.{old_opening_of}
 use Rattle.journal_disk.specs.declared.fault.JournalFault.{JournalFault}
 use Rattle.journal_disk.specs.declared.fault.JournalFault.TheVariants as journal
@@ -9,35 +10,36 @@ use Rattle.history_core.specs.declared.opening.OpenFault.TheVariants as entries
 use Rattle.apron_check.specs.declared.files.AirportFiles.{AirportFiles}
 use Rattle.desk_workers.specs.Watched.{FeedTexts}
 use Rattle.apron_run.specs.Complete.{HasFiles}
-use Rattle.apron_run.specs.Run.{RunsAs}
+use Rattle.apron_run.specs.Converting.{Converts, StopsConverting}
+use Rattle.apron_run.specs.Carried.{CarriedAs, MeetsUpgrade, SinkAndDisk, TellsUpgrade, UpgradesFiles, UpgradesJournal, sink_and_disk}
 use Rattle.apron_run.specs.Statuses.{exit_code, is_disk_fault}
 use Rattle.apron_run.specs.Unusable.{status_of_unusable}
-use Rattle.apron_run.specs.Upgrade.{CanUpgrade, LiftsInVain, Lifts, MeetsUpgrade, NotUpgraded, StopsLifting, TellsUpgrade, UpgradesFiles, UpgradesJournal, already_text, upgraded_text}
+use Rattle.apron_run.specs.Upgrade.{CanUpgrade, ConvertsInVain, NotUpgraded, already_text, upgraded_text}
 use Rattle.apron_run.specs.Words.{upgrade as upgrade_asked}
-use Rattle.apron_run.specs.World.{DiskSeen, SinkAndDisk, World, sink_and_disk}
+use Rattle.apron_run.specs.World.{World}
 use Rattle.apron_run.specs.declared.status.Status.{Status}
 use Rattle.apron_run.specs.declared.status.Status.TheVariants.{Memory}
 use Rattle.apron_run.specs.declared.unusable.Unusable.{Unusable}
 use Rattle.apron_run.specs.declared.unusable.Unusable.TheVariants.{Journal, Entries}
 use Rattle.apron_run.proofs.Completing.{Well, files_well, printed_well, unopened_well}
 use Rattle.apron_run.proofs.Counting.{Counted, files_as, text_counted, unusable_counted}
-use Rattle.apron_run.proofs.Lifts.{none_stops}
+use Rattle.apron_run.proofs.Converts.{none_stops}
 use Rattle.apron_run.proofs.Valid.{both_told}
 
 -- the disk if no journal was upgraded
-failed_disk : (files : AirportFiles) (before after : DiskSeen) (why : Unusable) → NotUpgraded files before after why
+failed_disk : (files : AirportFiles) (before after : DiskState) (why : Unusable) → NotUpgraded files before after why
     → Counts (is_disk_fault (status_of_unusable why)) before.faults after.faults
-failed_disk files before after (Journal journal.DiskFault) fails = fails
+failed_disk files before after (Journal journal.DiskFault) (fails, leaves) = fails
 failed_disk files before after (Journal journal.NotEmpty) fails = absurd fails
 failed_disk files before after (Journal journal.OldFormat) fails = absurd fails
-failed_disk files before after (Journal fault) (reads, told) = reads.counts
-failed_disk files before after (Entries entries.Memory) (reads, vain) = reads.counts
-failed_disk files before after (Entries fault) (reads, vain) = reads.counts
+failed_disk files before after (Journal fault) (unwritten, told) = unwritten.faults
+failed_disk files before after (Entries entries.Memory) (unwritten, vain) = unwritten.faults
+failed_disk files before after (Entries fault) (unwritten, vain) = unwritten.faults
 
 met_as : (files : AirportFiles) (before after : SinkAndDisk) (met : Result (Option ℕ) Unusable) (status : Status) → MeetsUpgrade files before.disk after.disk met
     → TellsUpgrade met before.sink after.sink status → Counted false status before after
 met_as files before after (Ok (Some count)) status meets tells = text_counted before after status (upgraded_text count) meets.counts tells
-met_as files before after (Ok None) status meets tells = text_counted before after status already_text meets.reads.counts tells
+met_as files before after (Ok None) status meets tells = text_counted before after status already_text meets.unwritten.faults tells
 met_as files before after (Err why) status meets tells =
     unusable_counted before after status why (failed_disk files before.disk after.disk why meets) tells
 
@@ -46,12 +48,12 @@ upgrades_counted files before after status upgrades = met_as files before after 
 
 -- a run of the word
 pub upgrade_as : {feeds : FeedTexts} (airport types : List ℕ) (before after : World) (status : Status) → after.source ≡ before.source → UpgradesFiles airport types before after status
-    → RunsAs feeds (upgrade_asked airport types) before after (exit_code status)
+    → CarriedAs feeds (upgrade_asked airport types) before after (exit_code status)
 upgrade_as airport types before after status =
     files_as UpgradesJournal (upgrade_asked airport types) airport types before after status (λ files. upgrades_counted files (sink_and_disk before) (sink_and_disk after) status)
     (λ does. does) (λ counts. counts)
 
-module _ (made : AirportFiles) (before after : DiskSeen) (can : CanUpgrade made before) where
+module _ (made : AirportFiles) (before after : DiskState) (can : CanUpgrade made before) where
   -- the disk has one journal of format 1 or 2
   opens_once : {P : Type 0} (other : Result (Option (List (List ℕ))) JournalFault) → IfSome before.contents (λ bytes. old_opening_of made.digests bytes ≡ other)
       → (Ok can.found ≡ other → P) → P
@@ -63,30 +65,30 @@ module _ (made : AirportFiles) (before after : DiskSeen) (can : CanUpgrade made 
   opens_well : (fault : JournalFault) → IfSome before.contents (λ bytes. old_opening_of made.digests bytes ≡ Err fault) → ⊥
   opens_well fault fails = opens_once (Err fault) fails (λ both. cc)
 
-  -- its entries are lifted
-  lifts_well : (found : Option (List (List ℕ))) (old : List (List ℕ)) (number : ℕ) → ◌≡◌ {A = Result (Option (List (List ℕ))) JournalFault} (Ok found) (Ok (Some old))
-      → IfSome found (λ old. (new : List (List ℕ)) × Lifts made.airport old new) → StopsLifting made.airport old number → ⊥
-  lifts_well None old number is lifts stops = absurd cc
-  lifts_well (Some found) old number is (new, lifts) stops =
+  -- its entries are converted
+  converts_well : (found : Option (List (List ℕ))) (old : List (List ℕ)) (number : ℕ) → ◌≡◌ {A = Result (Option (List (List ℕ))) JournalFault} (Ok found) (Ok (Some old))
+      → IfSome found (λ old. (new : List (List ℕ)) × Converts made.airport old new) → StopsConverting made.airport old number → ⊥
+  converts_well None old number is converts stops = absurd cc
+  converts_well (Some found) old number is (new, converts) stops =
       let same : found ≡ old = cc in
       none_stops made.airport stops.front stops.bytes stops.back new stops.fault
-      (subst (λ (es : List (List ℕ)). Lifts made.airport es new) (same ∙ stops.are) lifts) stops.fails
+      (subst (λ (es : List (List ℕ)). Converts made.airport es new) (same ∙ stops.are) converts) stops.fails
 
-  reads_well : (number : ℕ) → LiftsInVain made before (entries.BadEntry number) → ⊥
-  reads_well number vain = opens_once (Ok (Some vain.old)) vain.was (λ both. lifts_well can.found vain.old number both can.lifts vain.cause)
+  reads_well : (number : ℕ) → ConvertsInVain made before (entries.BadEntry number) → ⊥
+  reads_well number vain = opens_once (Ok (Some vain.old)) vain.was (λ both. converts_well can.found vain.old number both can.converts vain.cause)
 
-  no_wrong : (number : ℕ) → LiftsInVain made before (entries.WrongEntry number) → ⊥
+  no_wrong : (number : ℕ) → ConvertsInVain made before (entries.WrongEntry number) → ⊥
   no_wrong number vain = vain.cause
 
   -- if the disk doesn't fail, it is not upgraded only if there is no memory
   failed_wants : (why : Unusable) → NotUpgraded made before after why → ¬ (Rose before.faults after.faults) → status_of_unusable why ≡ Memory
-  failed_wants (Journal journal.DiskFault) fails disk = absurd (disk fails.1)
+  failed_wants (Journal journal.DiskFault) (fails, leaves) disk = absurd (disk fails.1)
   failed_wants (Journal journal.NotEmpty) fails disk = absurd fails
   failed_wants (Journal journal.OldFormat) fails disk = absurd fails
   failed_wants (Journal journal.Memory) fails disk = refl
-  failed_wants (Journal fault) (reads, fails) disk = absurd (opens_well fault fails)
-  failed_wants (Entries (entries.BadEntry number)) (reads, vain) disk = absurd (reads_well number vain)
-  failed_wants (Entries (entries.WrongEntry number)) (reads, vain) disk = absurd (no_wrong number vain)
+  failed_wants (Journal fault) (unwritten, fails) disk = absurd (opens_well fault fails)
+  failed_wants (Entries (entries.BadEntry number)) (unwritten, vain) disk = absurd (reads_well number vain)
+  failed_wants (Entries (entries.WrongEntry number)) (unwritten, vain) disk = absurd (no_wrong number vain)
   failed_wants (Entries entries.Memory) fails disk = refl
 
 met_well : (made : AirportFiles) (before after : SinkAndDisk) (status : Status) → CanUpgrade made before.disk → ¬ (Rose before.sink.faults after.sink.faults)

@@ -15,6 +15,7 @@ use Rattle.history_core.specs.Opening.{IsNotNext, StopsAt}
 use Rattle.history_core.specs.declared.opening.OpenFault.{OpenFault}
 use Rattle.history_core.specs.declared.opening.OpenFault.TheVariants as entries
 use Rattle.history_core.proofs.Legal.{front_legal}
+use Rattle.journal_disk.specs.Disk.{DiskState, IfExposed}
 use Rattle.journal_disk.specs.Header.{opening_of}
 use Rattle.journal_disk.specs.declared.fault.JournalFault.{JournalFault}
 use Rattle.journal_disk.specs.declared.fault.JournalFault.TheVariants as journal
@@ -26,10 +27,10 @@ use Rattle.apron_check.specs.declared.faults.FilesFault.TheVariants as files
 use Rattle.apron_run.specs.Complete.{HasFiles, HasJournal}
 use Rattle.apron_run.specs.Journal.{NotOpened, OpensTo, WhyUnusable}
 use Rattle.apron_run.specs.Unusable.{status_of_unusable}
-use Rattle.apron_run.specs.World.{DiskSeen}
 use Rattle.apron_run.specs.declared.status.Status.TheVariants.{Memory}
 use Rattle.apron_run.specs.declared.unusable.Unusable.{Unusable}
 use Rattle.apron_run.specs.declared.unusable.Unusable.TheVariants.{Journal, Entries}
+use Rattle.apron_run.proofs.Disks.{if_told}
 
 -- a result is one value
 ok_once : {A E : Type 0} (result : Result A E) (one other : A) → result ≡ Ok one → result ≡ Ok other → one ≡ other
@@ -154,7 +155,7 @@ module _ (airport : AirportParts) (texts : List (List ℕ)) (history : List Entr
       (read_next airport stops.front stops.bytes stops.back stops.before history (subst (λ (es : List (List ℕ)). Spells airport es history) stops.is spells) stops.spells)
       other stops.why
 
-module _ (made : AirportFiles) (before after : DiskSeen) (history : List Entry) (has : HasJournal made before history) where
+module _ (made : AirportFiles) (before after : DiskState) (history : List Entry) (has : HasJournal made before history) where
   -- it opens to one history
   pub opened_once : (opened : List Entry) → OpensTo made before opened → opened ≡ history
   opened_once opened opens =
@@ -164,11 +165,12 @@ module _ (made : AirportFiles) (before after : DiskSeen) (history : List Entry) 
       let texts : entry_texts opened ≡ entry_texts history = ok_once (opening_of made.digests bytes) (entry_texts opened) (entry_texts history) one other in
       read_once made.airport (entry_texts history) opened history (subst (λ (es : List (List ℕ)). Spells made.airport es opened) texts opens.spells) known.spells
 
-  opens_well : (fault : JournalFault) → IfSome before.contents (λ bytes. opening_of made.digests bytes ≡ Err fault) → ⊥
+  opens_well : (fault : JournalFault) → IfExposed before (λ bytes. opening_of made.digests bytes ≡ Err fault) → ⊥
   opens_well fault fails =
       let known = has.opens in
       let (bytes, one, other) = both_told before.contents (λ bytes. opening_of made.digests bytes ≡ Ok (entry_texts history))
-      (λ bytes. opening_of made.digests bytes ≡ Err fault) has.told known.entries fails in
+      (λ bytes. opening_of made.digests bytes ≡ Err fault) has.told known.entries
+      (if_told before.contents (λ bytes. opening_of made.digests bytes ≡ Err fault) fails) in
       let both : Ok (entry_texts history) ≡ Err fault = sym one ∙ other in
       absurd cc
 

@@ -15,7 +15,7 @@ use Rattle.history_core.specs.Answer.{added_entries}
 use Rattle.history_core.specs.AtRisk.{IsAskedFor, read_entry_at_risk}
 use Rattle.history_core.specs.Board.{BoardHeld}
 use Rattle.history_core.specs.History.{call_limit, replay}
-use Rattle.history_core.specs.Steps.{IsOtherName, IsSameName, Stepped, TakenAs, accepted, full, name, refused, repeated}
+use Rattle.history_core.specs.Acceptance.{IsOtherName, IsSameName, Stepped, TakenAs, accepted, full, name, refused, repeated}
 use Rattle.apron_run.specs.declared.imported.Imported.{Imported}
 use Rattle.apron_run.specs.declared.imported.Imported.TheVariants.{Whole, Refused, Full, DiskFault, Spent, Memory}
 

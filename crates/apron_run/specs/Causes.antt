@@ -1,11 +1,14 @@
 -- Why a run ends with the status of an end that failed.
 use Rattle.std.specs.Prelude.{◌≡◌, ◌≢◌, ℕ, Bool, true}
 use Rattle.apron_base.specs.Counts.{Rose}
+use Rattle.apron_base.specs.Ends.{SinkState, SourceState}
+use Rattle.apron_base.specs.Shelf.{ShelfState}
 use Rattle.desk_workers.specs.Watched.{FeedTexts}
+use Rattle.journal_disk.specs.Disk.{DiskState}
 use Rattle.apron_run.specs.Run.{RunsAs}
 use Rattle.apron_run.specs.Statuses.{exit_code}
 use Rattle.apron_run.specs.Words.{Subcommand, uses_disk, uses_shelf, uses_source}
-use Rattle.apron_run.specs.World.{World}
+use Rattle.apron_run.specs.World.{World, world_at}
 use Rattle.apron_run.specs.declared.status.Status.TheVariants.{ShelfFault, ReadFault, WriteFault, DiskFault}
 
 -- an end is used, and its count of faults rose
@@ -23,9 +26,14 @@ pub record FaultsHaveCause (asked : Subcommand) (before after : World) (code : �
   pub disk : code ≡ exit_code DiskFault
       → FailsInUse (uses_disk asked code) before.disk.faults after.disk.faults
 
--- a run whose shelf, source and sink count no fault ends with none of their statuses
-abbrev pub NoFaultIsTold : Type 0
-NoFaultIsTold = (feeds : FeedTexts) (asked : Subcommand) (before after : World) (code : ℕ)
-    → RunsAs feeds asked before after code
-    → after.shelf.faults ≡ 0 → after.source.faults ≡ 0 → after.sink.faults ≡ 0
+-- a run whose shelf, source and sink count no fault ends with none of their statuses, for disks of
+-- any kind
+abbrev pub NoFaultIsTold : {D : Type 0} → (D → DiskState) → Type 0
+NoFaultIsTold {D} state =
+    (feeds : FeedTexts) (asked : Subcommand) (shelf : ShelfState) (source : SourceState)
+    (sink : SinkState) (disk : D) (now : ShelfState) (read : SourceState) (written : SinkState)
+    (left : D) (code : ℕ)
+    → RunsAs feeds asked (world_at shelf source sink (state disk))
+    (world_at now read written (state left)) code
+    → now.faults ≡ 0 → read.faults ≡ 0 → written.faults ≡ 0
     → (code ≢ exit_code ShelfFault) × (code ≢ exit_code ReadFault) × (code ≢ exit_code WriteFault)

@@ -14,7 +14,8 @@ use Rattle.desk_asks.specs.declared.asks.Command.TheVariants.{AddVisit}
 use Rattle.desk_asks.specs.declared.asks.Entry.{Entry}
 use Rattle.history_core.specs.History.{call_limit, replay}
 use Rattle.history_core.specs.Opening.{next_after}
-use Rattle.history_core.specs.Steps.{HasPlace, IsOtherName}
+use Rattle.history_core.specs.Acceptance.{CanGrowBy, IsOtherName}
+use Rattle.journal_disk.specs.Disk.{DiskState}
 use Rattle.desk_http.specs.Session.{most_requests}
 use Rattle.apron_check.specs.Files.{Make}
 use Rattle.apron_check.specs.declared.files.AirportFiles.{AirportFiles}
@@ -26,7 +27,7 @@ use Rattle.apron_run.specs.Journal.{OpensTo}
 use Rattle.apron_run.specs.Statuses.{exit_code}
 use Rattle.apron_run.specs.Upgrade.{CanUpgrade}
 use Rattle.apron_run.specs.Words.{Subcommand, desk, init, check, chart, import, export, propose, upgrade, make, help, version, faulty}
-use Rattle.apron_run.specs.World.{DiskSeen, World}
+use Rattle.apron_run.specs.World.{World}
 use Rattle.apron_run.specs.declared.status.Status.TheVariants.{Done, Memory}
 
 -- the shelf tells the airport file and the type file of these names, and they make this airport
@@ -37,12 +38,13 @@ pub record HasFiles (shelf : ShelfState) (airport types : List ℕ)
   pub make : Make (shelf.file airport) (shelf.file types) files
 
 -- the disk tells what it reads as, and has no bytes
-pub record IsEmpty (disk : DiskSeen) : Type 0 where
+pub record IsEmpty (disk : DiskState) : Type 0 where
   pub told : IsSome disk.contents
   pub bytes : IfSome disk.contents (λ bytes. length bytes ≡ 0)
 
 -- the disk tells what it reads as, and opens as the journal of these files with this history
-pub record HasJournal (files : AirportFiles) (disk : DiskSeen) (history : List Entry) : Type 0 where
+pub record HasJournal (files : AirportFiles) (disk : DiskState)
+    (history : List Entry) : Type 0 where
   pub told : IsSome disk.contents
   pub opens : OpensTo files disk history
 
@@ -70,10 +72,10 @@ pub record HasInput (airport : AirportParts) (source : SourceState)
   pub numbers : next_after history + count_of_asks airport requests ≤ call_limit
 
 -- a plan with a history of this many entries adds the visit or has it: no visit of the plan has its
--- name with other data, and if none has its name there is a place for one more visit and entry
+-- name with other data, and if none has its name it can grow by one more visit and entry
 pub record Admits (plan : PlanState) (entries : ℕ) (new : NewVisit) : Type 0 where
   pub name : (visit : Visit) → ¬ (IsOtherName plan new visit)
-  pub place : visit_named plan.visits new.name ≡ None → HasPlace plan entries (AddVisit new)
+  pub grows : visit_named plan.visits new.name ≡ None → CanGrowBy plan entries (AddVisit new)
 
 -- each of these visits is admitted after those before it were asked to be added
 abbrev pub AdmitsEach : AirportParts → List NewVisit → Reached → Type 0

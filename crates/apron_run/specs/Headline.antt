@@ -17,6 +17,7 @@ use Rattle.history_core.specs.AtRisk.{IsAskedFor}
 use Rattle.history_core.specs.History.{IsLegal, IsSoundPlan, call_limit, call_of, replay}
 use Rattle.history_core.specs.Laws.{HasAdded, HasCommit, HasVisit}
 use Rattle.history_core.specs.Opening.{next_after}
+use Rattle.journal_disk.specs.Disk.{DiskState}
 use Rattle.desk_http.specs.Answers.{Sent, TakesMemory, at_once, fed, given, sends, sent_text}
 use Rattle.desk_http.specs.Alone.{numbers_from}
 use Rattle.desk_http.specs.FedSession.{feed_asked}
@@ -32,10 +33,10 @@ use Rattle.apron_check.specs.declared.files.AirportFiles.{AirportFiles}
 use Rattle.apron_check.specs.declared.faults.FilesFault.{FilesFault}
 use Rattle.apron_check.specs.declared.faults.FilesFault.TheVariants as files
 use Rattle.apron_run.specs.Desk.{DeskAnswers, new_port}
+use Rattle.apron_run.specs.End.{End, faulty, line_of, status_of, unusable}
 use Rattle.apron_run.specs.Journal.{KeepsHistory, NotOpened, OpensTo}
-use Rattle.apron_run.specs.Statuses.{exit_code, status_of_fault}
-use Rattle.apron_run.specs.Unusable.{status_of_unusable, unusable_line}
-use Rattle.apron_run.specs.World.{DeskEnds, DiskSeen, World, desk_ends}
+use Rattle.apron_run.specs.Statuses.{exit_code}
+use Rattle.apron_run.specs.World.{Unwritten, World}
 use Rattle.apron_run.specs.declared.status.Status.{Status}
 use Rattle.apron_run.specs.declared.status.Status.TheVariants.{Done, ReadFault, WriteFault, Cut, Memory, Malformed, Limit, Spent}
 use Rattle.apron_run.specs.declared.unusable.Unusable.{Unusable}
@@ -48,15 +49,15 @@ pub record Carried : Type 0 where
 
 -- the requests at the front of an input that were answered, in order, what was sent for each, and
 -- the bytes after them
-pub record Exchange : Type 0 where
+pub record Exchanges : Type 0 where
   pub requests : List Request
   pub sents : List Sent
   pub rest : List ℕ
 
 -- no request closed the session, and it may answer one more
-pub record GoesOn (exchange : Exchange) : Type 0 where
-  pub stay : All IsOpen exchange.requests
-  pub few : length exchange.requests < most_requests
+pub record GoesOn (exchanges : Exchanges) : Type 0 where
+  pub stay : All IsOpen exchanges.requests
+  pub few : length exchanges.requests < most_requests
 
 -- the bytes are a part of a request, and then what the source still has
 pub record StopsInside (bytes left : List ℕ) : Type 0 where
@@ -112,39 +113,39 @@ pub record CountsUnkept (unkept before after : ℕ) : Type 0 where
   pub none : unkept ≡ 0 → after ≡ before
   pub some : RoseBy unkept before after
 
--- one place of an exchange: what was sent there for a request, and the requests and what was sent
--- before it
-pub record IsPlace (exchange : Exchange) (front : List Request) (told : List Sent)
+-- one place among the exchanges: what was sent there for a request, and the requests and what was
+-- sent before it
+pub record IsPlace (exchanges : Exchanges) (front : List Request) (told : List Sent)
     (request : Request) (sent : Sent) : Type 0 where
   pub back : List Request
   pub later : List Sent
-  pub requests_are : exchange.requests ≡ front ++ request ∷ back
-  pub sents_are : exchange.sents ≡ told ++ sent ∷ later
+  pub requests_are : exchanges.requests ≡ front ++ request ∷ back
+  pub sents_are : exchanges.sents ≡ told ++ sent ∷ later
   pub place : length told ≡ length front
 
 module _ (airport : AirportParts) where
   -- the bytes of all that was sent
-  abbrev pub replies_text : Exchange → List ℕ
-  replies_text exchange = texts_of airport exchange.sents
+  abbrev pub replies_text : Exchanges → List ℕ
+  replies_text exchanges = texts_of airport exchanges.sents
 
   -- all replies were written whole but the last, of which a front was
-  pub record CutsReply (exchange : Exchange) (output : List ℕ) : Type 0 where
-    pub before : Exchange
+  pub record CutsReply (exchanges : Exchanges) (output : List ℕ) : Type 0 where
+    pub before : Exchanges
     pub goes_on : GoesOn before
     pub request : Request
     pub sent : Sent
-    pub requests_are : exchange.requests ≡ before.requests ++ request ∷ []
-    pub sents_are : exchange.sents ≡ before.sents ++ sent ∷ []
+    pub requests_are : exchanges.requests ≡ before.requests ++ request ∷ []
+    pub sents_are : exchanges.sents ≡ before.sents ++ sent ∷ []
     pub count : ℕ
     pub bytes : output ≡ replies_text before ++ take count (sent_text airport sent)
 
   -- all replies were written whole, and a front of the reply to bytes that are refused
-  pub record CutsRefusal (exchange : Exchange) (output : List ℕ) : Type 0 where
-    pub goes_on : GoesOn exchange
+  pub record CutsRefusal (exchanges : Exchanges) (output : List ℕ) : Type 0 where
+    pub goes_on : GoesOn exchanges
     pub why : RequestRefusal
-    pub malformed : IsMalformed exchange.rest why
+    pub malformed : IsMalformed exchanges.rest why
     pub count : ℕ
-    pub bytes : output ≡ replies_text exchange ++ take count (refusal_text why)
+    pub bytes : output ≡ replies_text exchanges ++ take count (refusal_text why)
 
   -- The place in its input at which a session ended with this status, and what it wrote. With Done,
   -- Cut and Malformed it came to the end of the input's requests, and with Limit it answered as
@@ -152,46 +153,46 @@ module _ (airport : AirportParts) where
   -- with Spent at a request that takes a call number. With Memory it stopped before it took
   -- anything, or at a request whose body is read as JSON; then the line that says so, or a
   -- beginning of it, follows the replies.
-  abbrev pub StopsWith : Status → Carried → Exchange → Type 0
-  StopsWith Done carried exchange =
-      (GoesOn exchange × Requests carried.input exchange.requests ended
-      ⊎ Requests carried.input exchange.requests closed)
-      × (carried.output ≡ replies_text exchange)
-  StopsWith Cut carried exchange =
-      GoesOn exchange
-      × Requests carried.input exchange.requests cut
-      × (carried.output ≡ replies_text exchange)
-  StopsWith Malformed carried exchange = GoesOn exchange
+  abbrev pub StopsWith : Status → Carried → Exchanges → Type 0
+  StopsWith Done carried exchanges =
+      (GoesOn exchanges × Requests carried.input exchanges.requests ended
+      ⊎ Requests carried.input exchanges.requests closed)
+      × (carried.output ≡ replies_text exchanges)
+  StopsWith Cut carried exchanges =
+      GoesOn exchanges
+      × Requests carried.input exchanges.requests cut
+      × (carried.output ≡ replies_text exchanges)
+  StopsWith Malformed carried exchanges = GoesOn exchanges
       × ((why : RequestRefusal)
-      × Requests carried.input exchange.requests (malformed why)
-      × (carried.output ≡ replies_text exchange ++ refusal_text why))
-  StopsWith Limit carried exchange =
-      All IsOpen exchange.requests
-      × (length exchange.requests ≡ most_requests)
-      × (carried.output ≡ replies_text exchange)
-  StopsWith ReadFault carried exchange =
-      GoesOn exchange
-      × StopsInside exchange.rest carried.left
-      × (carried.output ≡ replies_text exchange)
-  StopsWith WriteFault carried exchange = CutsReply exchange carried.output
-      ⊎ CutsRefusal exchange carried.output
-  StopsWith Memory carried exchange = GoesOn exchange
-      × ((exchange.requests ≡ []) × (carried.left ≡ carried.input) ⊎ IsUnread exchange.rest)
+      × Requests carried.input exchanges.requests (malformed why)
+      × (carried.output ≡ replies_text exchanges ++ refusal_text why))
+  StopsWith Limit carried exchanges =
+      All IsOpen exchanges.requests
+      × (length exchanges.requests ≡ most_requests)
+      × (carried.output ≡ replies_text exchanges)
+  StopsWith ReadFault carried exchanges =
+      GoesOn exchanges
+      × StopsInside exchanges.rest carried.left
+      × (carried.output ≡ replies_text exchanges)
+  StopsWith WriteFault carried exchanges = CutsReply exchanges carried.output
+      ⊎ CutsRefusal exchanges carried.output
+  StopsWith Memory carried exchanges = GoesOn exchanges
+      × ((exchanges.requests ≡ []) × (carried.left ≡ carried.input) ⊎ IsUnread exchanges.rest)
       × ((count : ℕ)
-      × (carried.output ≡ replies_text exchange ++ take count (fault_line files.Memory)))
-  StopsWith Spent carried exchange =
-      GoesOn exchange × TakesCall airport exchange.rest × (carried.output ≡ replies_text exchange)
-  StopsWith status carried exchange = ⊥
+      × (carried.output ≡ replies_text exchanges ++ take count (fault_line files.Memory)))
+  StopsWith Spent carried exchanges =
+      GoesOn exchanges × TakesCall airport exchanges.rest × (carried.output ≡ replies_text exchanges)
+  StopsWith status carried exchanges = ⊥
 
-  -- An entry that could not be kept, in an exchange whose calls are numbered from `first` on: one
+  -- An entry that could not be kept, among exchanges whose calls are numbered from `first` on: one
   -- request asked this command as the call of this number, and its reply says so. All entries of
   -- the history are of earlier calls, so none was added since.
-  pub record IsUnkept (first : ℕ) (exchange : Exchange) (history : List Entry)
+  pub record IsUnkept (first : ℕ) (exchanges : Exchanges) (history : List Entry)
       (entry : Entry) : Type 0 where
     pub front : List Request
     pub told : List Sent
     pub request : Request
-    pub at : IsPlace exchange front told request (given keeper_fault)
+    pub at : IsPlace exchanges front told request (given keeper_fault)
     pub ask : Ask
     pub asks : ask_of_request airport request ≡ Ok ask
     pub asked : IsAskedFor (first + count_by is_given told) ask.what entry
@@ -248,20 +249,20 @@ module _ (feeds : FeedTexts) (files : AirportFiles) where
   -- sound. At the end the disk is a journal of the same two files with the history; or, if it has
   -- failed, with the history and perhaps one more entry, with which it is still legal. This is the
   -- entry of a request whose reply said that it could not be kept, and no entry was added after it.
-  pub record Headline (opened : List Entry) (before after : DiskSeen) (carried : Carried)
+  pub record Headline (opened : List Entry) (before after : DiskState) (carried : Carried)
       (code : ℕ) : Type 0 where
     pub status : Status
     pub code_is : code ≡ exit_code status
-    pub exchange : Exchange
+    pub exchanges : Exchanges
     pub new : PortState
-    pub splits : Splits carried.input exchange.requests exchange.rest
-    pub few : length exchange.requests ≤ most_requests
+    pub splits : Splits carried.input exchanges.requests exchanges.rest
+    pub few : length exchanges.requests ≤ most_requests
     pub runs : Runs (Sends feeds files.airport) (new_port opened before.faults)
-        exchange.requests exchange.sents new
-    pub stops : StopsWith files.airport status carried exchange
+        exchanges.requests exchanges.sents new
+    pub stops : StopsWith files.airport status carried exchanges
     pub begins : GoesOnFrom opened new.seen
-    pub calls : new.calls ≡ numbers_from (next_after opened) (count_by is_given exchange.sents)
-    pub spent : status ≡ Spent → next_after opened + count_by is_given exchange.sents ≡ call_limit
+    pub calls : new.calls ≡ numbers_from (next_after opened) (count_by is_given exchanges.sents)
+    pub spent : status ≡ Spent → next_after opened + count_by is_given exchanges.sents ≡ call_limit
     pub legal : IsLegal files.airport new.seen
     pub sound : AllSound files.airport new.seen
     pub drafts : (desk : List ℕ) (number version : ℕ)
@@ -269,13 +270,13 @@ module _ (feeds : FeedTexts) (files : AirportFiles) where
     pub visits : (version : ℕ) (added : NewVisit)
         → IsOfItsEntry files.airport new.seen version added
     pub faults : new.faults ≡ after.faults
-    pub unkept : CountsUnkept (count_by tells_unkept exchange.sents) before.faults after.faults
+    pub unkept : CountsUnkept (count_by tells_unkept exchanges.sents) before.faults after.faults
     pub keeps : KeepsHistory files new.seen new.at_risk after
-    pub at_risk : IfSome new.at_risk (IsUnkept files.airport (next_after opened) exchange new.seen)
+    pub at_risk : IfSome new.at_risk (IsUnkept files.airport (next_after opened) exchanges new.seen)
 
   -- the headline of this input, with what the source and the sink tell afterwards; what the sink
   -- told before it tells then too
-  abbrev pub TellsOf : List Entry → List ℕ → DeskEnds → DeskEnds → ℕ → Type 0
+  abbrev pub TellsOf : List Entry → List ℕ → World → World → ℕ → Type 0
   TellsOf opened input before after code =
       (left output : List ℕ)
       × (after.source.left ≡ Some left)
@@ -285,41 +286,33 @@ module _ (feeds : FeedTexts) (files : AirportFiles) where
 
   -- the journal of the files opened, and the headline begins with its history, if the source tells
   -- its bytes
-  pub record TellsOpened (before after : DeskEnds) (code : ℕ) : Type 0 where
+  pub record TellsOpened (before after : World) (code : ℕ) : Type 0 where
     pub opened : List Entry
     pub opens : OpensTo files before.disk opened
     pub tells : IfSome before.source.left (λ input. TellsOf opened input before after code)
 
--- there is no journal of the files to work on: the line that tells why was written, or a front of
--- it, and nothing else; the source is as it was, and the disk reads as before
-pub record TellsUnopened (files : AirportFiles) (before after : DeskEnds) (code : ℕ) : Type 0 where
-  pub why : Unusable
-  pub code_is : code ≡ exit_code (status_of_unusable why)
+-- no session was held, for this reason: the line that tells it was written, or a front of it, and
+-- nothing else; and the source is as it was
+pub record TellsNoSession (why : End) (before after : World) (code : ℕ) : Type 0 where
+  pub code_is : code ≡ exit_code (status_of why)
   pub source : after.source ≡ before.source
-  pub disk : NotOpened files before.disk after.disk why
   pub count : ℕ
-  pub wrote : Appends before.sink.told after.sink.told (take count (unusable_line why))
-
--- the line of a fault of the files was written, or a front of it, and nothing else; the source and
--- the disk are as they were
-pub record TellsEarly (fault : FilesFault) (before after : DeskEnds) (code : ℕ) : Type 0 where
-  pub code_is : code ≡ exit_code (status_of_fault fault)
-  pub source : after.source ≡ before.source
-  pub disk : after.disk ≡ before.disk
-  pub count : ℕ
-  pub wrote : Appends before.sink.told after.sink.told (take count (fault_line fault))
+  pub wrote : IfSome (line_of why)
+      (λ line. Appends before.sink.told after.sink.told (take count line))
 
 -- `feeds` says what the reply to each feed is, by the airport and the history
 module _ (feeds : FeedTexts) where
-  -- the headline of what was found in the two files: of a session on their journal, or that there
-  -- is none to work on; or the line of their fault
-  abbrev pub TellsFoundHeadline : Result AirportFiles FilesFault → DeskEnds → DeskEnds → ℕ → Type 0
-  TellsFoundHeadline (Ok files) before after code =
-      TellsOpened feeds files before after code ⊎ TellsUnopened files before after code
-  TellsFoundHeadline (Err fault) before after code = TellsEarly fault before after code
+  -- the headline of what was found in the two files: of a session on their journal; or that there
+  -- is none to work on, or the fault of the files, and nothing was written on the disk
+  abbrev pub TellsFoundHeadline : Result AirportFiles FilesFault → World → World → ℕ → Type 0
+  TellsFoundHeadline (Ok files) before after code = TellsOpened feeds files before after code
+      ⊎ ((why : Unusable) × NotOpened files before.disk after.disk why
+      × TellsNoSession (unusable why) before after code)
+  TellsFoundHeadline (Err fault) before after code = Unwritten before.disk after.disk
+      × TellsNoSession (faulty fault) before after code
 
   -- the headline, at what was found in the airport file and the type file of these names
   pub record TellsHeadline (airport types : List ℕ) (before after : World) (code : ℕ) : Type 0 where
     pub found : Result AirportFiles FilesFault
     pub finds : FindsFiles before.shelf after.shelf airport types found
-    pub tells : TellsFoundHeadline found (desk_ends before) (desk_ends after) code
+    pub tells : TellsFoundHeadline found before after code

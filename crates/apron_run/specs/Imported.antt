@@ -1,12 +1,10 @@
 -- How an import ended, and the line and the status that tell it.
-use Rattle.std.specs.Prelude.{◌≡◌, ℕ, List, [], ◌∷◌, ◌++◌, codes, decimal}
-use Rattle.apron_base.specs.Ends.{SinkState}
+use Rattle.std.specs.Prelude.{ℕ, List, [], ◌∷◌, ◌++◌, codes, decimal}
 use Rattle.apron_check.specs.Lines.{memory_text}
-use Rattle.apron_run.specs.Print.{Writes}
 use Rattle.apron_run.specs.declared.imported.Imported.{Imported}
 use Rattle.apron_run.specs.declared.imported.Imported.TheVariants as imported
 use Rattle.apron_run.specs.declared.status.Status.{Status}
-use Rattle.apron_run.specs.declared.status.Status.TheVariants.{Done, WriteFault, ShelfFault, DiskFault, SeasonFault, Full, Spent, Memory}
+use Rattle.apron_run.specs.declared.status.Status.TheVariants.{Done, ShelfFault, DiskFault, SeasonFault, Full, Spent, Memory}
 
 -- the text that says how an import ended: nothing if the call numbers have run out
 abbrev pub imported_text : Imported → List ℕ
@@ -34,12 +32,3 @@ status_of_imported (imported.Full number) = Full
 status_of_imported imported.DiskFault = DiskFault
 status_of_imported imported.Spent = Spent
 status_of_imported imported.Memory = Memory
-
--- the line that says how an import ended, with its status, which stays if the sink fails at the
--- line, unless all was done; no line if the call numbers have run out
-abbrev pub TellsImported : Imported → SinkState → SinkState → Status → Type 0
-TellsImported (imported.Whole added present) before after status =
-    Writes (imported_line (imported.Whole added present)) Done WriteFault before after status
-TellsImported imported.Spent before after status = (after ≡ before) × (status ≡ Spent)
-TellsImported end before after status =
-    Writes (imported_line end) (status_of_imported end) (status_of_imported end) before after status

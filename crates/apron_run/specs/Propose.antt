@@ -5,9 +5,6 @@ use Rattle.desk_asks.specs.declared.asks.Entry.{Entry}
 use Rattle.history_core.specs.History.{replay}
 use Rattle.history_core.specs.Laws.{HasCommit}
 use Rattle.proposal_text.specs.Lines.{IsProposalText, used_text}
-use Rattle.apron_run.specs.PlanText.{PrintsFiles}
-use Rattle.apron_run.specs.World.{World}
-use Rattle.apron_run.specs.declared.status.Status.{Status}
 
 -- the history has a commit of this desk's draft of this number
 abbrev pub HasDraft : List Entry → List ℕ → ℕ → Type 0
@@ -19,8 +16,3 @@ abbrev pub IsProposed : List ℕ → ℕ → AirportParts → List Entry → Lis
 IsProposed desk draft airport history text =
     (HasDraft history desk draft × (text ≡ used_text))
     ⊎ ((HasDraft history desk draft → ⊥) × IsProposalText (replay airport history) text)
-
--- this was printed of the journal of the airport of two files of these names, or why there is none
-abbrev pub ProposesFiles : List ℕ → List ℕ → List ℕ → ℕ → World → World → Status → Type 0
-ProposesFiles airport types desk draft before after status =
-    PrintsFiles (IsProposed desk draft) airport types before after status

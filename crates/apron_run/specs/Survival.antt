@@ -7,15 +7,6 @@ use Rattle.history_core.specs.Board.{entry_texts}
 use Rattle.journal_disk.specs.Disk.{DiskState, EachImage, IfExposed, TellsAlike}
 use Rattle.journal_disk.specs.Header.{opening_of}
 
--- the disk before a run and after it
-pub record DiskStates : Type 1 where
-  pub before : DiskState
-  pub after : DiskState
-
--- a disk that was in the first of these states before a run, and is in the other after it
-abbrev pub from_to : DiskState → DiskState → DiskStates
-from_to before after = record { before = before; after = after }
-
 -- each image that a crash may leave from one moment of a disk to another
 abbrev pub EachImageFrom : ℕ → ℕ → DiskState → (List ℕ → Type 0) → Type 0
 EachImageFrom first last disk P =
@@ -72,7 +63,7 @@ IsTextOf at_risk text = (entry : Entry) × (at_risk ≡ Some entry) × (text ≡
 -- with this history and this entry at risk: during the run, as just said; and after it the history,
 -- or this and the entry at risk.
 pub record Survives (digests : List ℕ) (history : List Entry) (at_risk : Option Entry)
-    (disk : DiskStates) : Type 0 where
-  pub fronts : LeavesFronts digests (λ bytes. entry_texts history) disk.before disk.after
-  pub last : IfExposed disk.after (λ bytes.
-      EachImage disk.after (OpensWith digests (entry_texts history) (IsTextOf at_risk)))
+    (before after : DiskState) : Type 0 where
+  pub fronts : LeavesFronts digests (λ bytes. entry_texts history) before after
+  pub last : IfExposed after (λ bytes.
+      EachImage after (OpensWith digests (entry_texts history) (IsTextOf at_risk)))

@@ -1,26 +1,23 @@
 -- What a word does that begins with an airport file and a type file.
-use Rattle.std.specs.Prelude.{◌≡◌, ℕ, List, Result, Ok, Err}
+use Rattle.std.specs.Prelude.{ℕ, List, Result, Ok, Err}
+use Rattle.apron_base.specs.Shelf.{ShelfState}
 use Rattle.apron_check.specs.Files.{FindsFiles}
 use Rattle.apron_check.specs.declared.files.AirportFiles.{AirportFiles}
 use Rattle.apron_check.specs.declared.faults.FilesFault.{FilesFault}
-use Rattle.apron_run.specs.Check.{TellsFault}
-use Rattle.apron_run.specs.World.{SinkAndDisk, World, sink_and_disk}
-use Rattle.apron_run.specs.declared.status.Status.{Status}
+use Rattle.apron_run.specs.End.{End, EndsUntouched, faulty}
+use Rattle.apron_run.specs.World.{World}
 
--- by what it does with their airport
-module _ (OnFiles : AirportFiles → SinkAndDisk → SinkAndDisk → Status → Type 0) where
-  -- what is done with what was found in the two files: this; or the line of their fault is written,
-  -- and the disk is as it was
-  abbrev pub DoesFound : Result AirportFiles FilesFault → SinkAndDisk → SinkAndDisk → Status
-      → Type 0
-  DoesFound (Ok files) before after status = OnFiles files before after status
-  DoesFound (Err fault) before after status = (after.disk ≡ before.disk)
-      × TellsFault fault before.sink after.sink status
+-- by what it does at their airport
+module _ (At : AirportFiles → World → World → End → Type 0) where
+  -- what is done with what was found in the two files: this, or nothing
+  abbrev pub AtFound : Result AirportFiles FilesFault → World → World → End → Type 0
+  AtFound (Ok files) before after end = At files before after end
+  AtFound (Err fault) before after end = EndsUntouched (faulty fault) before after end
 
   -- the airport file and the type file of these names were read, and this was done with what was
   -- found in them
-  pub record DoesWithFiles (airport types : List ℕ) (before after : World)
-      (status : Status) : Type 0 where
+  pub record WithFiles (airport types : List ℕ) (before after : World) (end : End) : Type 0 where
     pub found : Result AirportFiles FilesFault
-    pub finds : FindsFiles before.shelf after.shelf airport types found
-    pub does : DoesFound found (sink_and_disk before) (sink_and_disk after) status
+    pub shelf : ShelfState
+    pub finds : FindsFiles before.shelf shelf airport types found
+    pub at : AtFound found (record before { shelf = shelf }) after end

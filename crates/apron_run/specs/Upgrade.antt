@@ -1,59 +1,24 @@
 -- What the word `upgrade` does: the journal of an airport goes from format 1 to format 2.
-use Rattle.std.specs.Prelude.{◌≡◌, ◌+◌, ℕ, true, false, List, [], ◌∷◌, ◌++◌, length, map, codes, decimal, Option, None, Some, IfSome, IsSome, Result, Ok, Err}
+use Rattle.std.specs.Prelude.{◌≡◌, ◌⊎◌, ◌+◌, ℕ, true, false, List, ◌++◌, length, map, codes, decimal, Option, None, Some, IfSome, IsSome, Ok}
 use Rattle.std.specs.Option.{option_map}
 use Rattle.apron_base.specs.Counts.{Counts}
-use Rattle.apron_base.specs.Ends.{SinkState}
-use Rattle.apron_base.specs.Histories.{Every}
 use Rattle.apron_rules.specs.declared.parts.AirportParts.{AirportParts}
 use Rattle.desk_asks.specs.declared.asks.Entry.{Entry}
-use Rattle.entry_bytes.specs.Entries.{decode_entry}
-use Rattle.entry_bytes.specs.Former.{decode_former_entry, lift_entry}
-use Rattle.entry_bytes.specs.declared.faults.EntryFault.{EntryFault}
+use Rattle.entry_bytes.specs.Former.{decode_former_entry}
 use Rattle.history_core.specs.History.{IsLegal}
 use Rattle.history_core.specs.declared.opening.OpenFault.{OpenFault}
-use Rattle.history_core.specs.declared.opening.OpenFault.TheVariants as entries
-use Rattle.journal_disk.specs.Entries.{IsEntry, records}
+use Rattle.journal_disk.specs.Disk.{DiskState}
 use Rattle.journal_disk.specs.Faults.{OldTextFails}
 use Rattle.journal_disk.specs.Header.{is_new, old_opening_of, opening_of}
-use Rattle.journal_disk.specs.Switch.{after_switch}
 use Rattle.journal_disk.specs.declared.fault.JournalFault.TheVariants as journal
 use Rattle.apron_check.specs.declared.files.AirportFiles.{AirportFiles}
+use Rattle.apron_run.specs.End.{End, printed, unusable}
 use Rattle.apron_run.specs.Journal.{OpensTo}
-use Rattle.apron_run.specs.Print.{Writes}
-use Rattle.apron_run.specs.TwoFiles.{DoesWithFiles}
-use Rattle.apron_run.specs.Unusable.{TellsUnusable}
-use Rattle.apron_run.specs.World.{DiskSeen, SinkAndDisk, World}
-use Rattle.apron_run.specs.declared.status.Status.{Status}
-use Rattle.apron_run.specs.declared.status.Status.TheVariants.{Done, WriteFault}
+use Rattle.apron_run.specs.Converting.{CannotConvert, Converts}
+use Rattle.apron_run.specs.UpgradeCrash.{LeavesStopped, LeavesUpgraded, switched}
+use Rattle.apron_run.specs.World.{OnDisk, Unwritten, World}
 use Rattle.apron_run.specs.declared.unusable.Unusable.{Unusable}
 use Rattle.apron_run.specs.declared.unusable.Unusable.TheVariants.{Journal, Entries}
-
--- these entries of format 1 are lifted to those of format 2, one by one and in order
-abbrev pub Lifts : AirportParts → List (List ℕ) → List (List ℕ) → Type 0
-Lifts airport old new = map (lift_entry airport) old ≡ map Ok new
-
--- What is known of lifted entries: they are as long as an entry can be, and are read as the same as
--- the ones before.
-pub record HasLifted (airport : AirportParts) (old new : List (List ℕ)) : Type 0 where
-  pub lifts : Lifts airport old new
-  pub reads : map (decode_entry airport) new ≡ map (decode_former_entry airport) old
-  pub sizes : Every IsEntry new
-
--- one entry more was lifted, and put after the others
-pub record LiftsNext (airport : AirportParts) (bytes : List ℕ)
-    (before after : List (List ℕ)) : Type 0 where
-  pub new : List ℕ
-  pub after_is : after ≡ before ++ new ∷ []
-  pub lifts : lift_entry airport bytes ≡ Ok new
-  pub reads : decode_entry airport new ≡ decode_former_entry airport bytes
-  pub size : IsEntry new
-
--- why the entry of this number was not lifted: it can't be, or there is no memory
-abbrev pub NotLifted : AirportParts → ℕ → List ℕ → OpenFault → Type 0
-NotLifted airport number bytes (entries.BadEntry told) =
-    (told ≡ number) × ((fault : EntryFault) × (lift_entry airport bytes ≡ Err fault))
-NotLifted airport number bytes (entries.WrongEntry told) = ⊥
-NotLifted airport number bytes entries.Memory = Unit {0}
 
 -- these entries of format 1 are read as this history, which is legal
 pub record WasHistory (airport : AirportParts) (old : List (List ℕ))
@@ -61,27 +26,16 @@ pub record WasHistory (airport : AirportParts) (old : List (List ℕ))
   pub legal : IsLegal airport history
   pub spells : map (decode_former_entry airport) old ≡ map Ok history
 
--- the bytes of a journal of format 1 with these old entries, once it was switched to format 2 with
--- these new ones: the new part is after the old part, and no byte before it is another one but the
--- format byte
-abbrev pub switched : List (List ℕ) → List (List ℕ) → List ℕ → List ℕ
-switched old new = after_switch (length (records old)) new
-
--- the disk reads as before, and no call of it has failed
-pub record ReadsAsBefore (before after : DiskSeen) : Type 0 where
-  pub contents : after.contents ≡ before.contents
-  pub counts : Counts false before.faults after.faults
-
 -- The disk had the journal of the files in format 1 with these many entries, and has it now in
--- format 2 with the lifted entries, in order, after the header and the old part as they were,
+-- format 2 with the converted entries, in order, after the header and the old section as they were,
 -- except for the format byte. If the old entries are a legal history, the new ones are the same
 -- history, so it has the same replay.
-pub record HasUpgraded (files : AirportFiles) (before after : DiskSeen) (count : ℕ) : Type 0 where
+pub record HasUpgraded (files : AirportFiles) (before after : DiskState) (count : ℕ) : Type 0 where
   pub old : List (List ℕ)
   pub new : List (List ℕ)
   pub format : IfSome before.contents (λ bytes. is_new bytes ≡ false)
   pub was : IfSome before.contents (λ bytes. old_opening_of files.digests bytes ≡ Ok (Some old))
-  pub lifts : Lifts files.airport old new
+  pub converts : Converts files.airport old new
   pub has : IfSome after.contents (λ bytes. opening_of files.digests bytes ≡ Ok new)
   pub keeps : after.contents ≡ option_map (switched old new) before.contents
   pub same : (history : List Entry)
@@ -89,56 +43,33 @@ pub record HasUpgraded (files : AirportFiles) (before after : DiskSeen) (count :
       → OpensTo files after history
   pub count_is : count ≡ length old
   pub counts : Counts false before.faults after.faults
+  pub leaves : LeavesUpgraded files.digests old new before after
 
 -- the disk has the journal of the files in format 2 already, and nothing was written
-pub record IsUpgraded (files : AirportFiles) (before after : DiskSeen) : Type 0 where
+pub record IsUpgraded (files : AirportFiles) (before after : DiskState) : Type 0 where
   pub format : IfSome before.contents (λ bytes. is_new bytes ≡ true)
   pub is : IfSome before.contents (λ bytes. old_opening_of files.digests bytes ≡ Ok None)
-  pub reads : ReadsAsBefore before after
+  pub unwritten : Unwritten before after
 
--- the entry of this number, from 1, is the first of these that can't be lifted
-pub record StopsLifting (airport : AirportParts) (old : List (List ℕ)) (number : ℕ) : Type 0 where
-  pub front : List (List ℕ)
-  pub new : List (List ℕ)
-  pub bytes : List ℕ
-  pub back : List (List ℕ)
-  pub fault : EntryFault
-  pub are : old ≡ front ++ bytes ∷ back
-  pub number_is : number ≡ length front + 1
-  pub lifts : Lifts airport front new
-  pub fails : lift_entry airport bytes ≡ Err fault
-
--- why the entries of a journal of format 1 are not lifted: one of them can't be, or there is no
--- memory
-abbrev pub CannotLift : AirportParts → List (List ℕ) → OpenFault → Type 0
-CannotLift airport old (entries.BadEntry number) = StopsLifting airport old number
-CannotLift airport old (entries.WrongEntry number) = ⊥
-CannotLift airport old entries.Memory = Unit {0}
-
--- the journal of the files is of format 1, and its entries are not lifted
-pub record LiftsInVain (files : AirportFiles) (before : DiskSeen) (fault : OpenFault) : Type 0 where
+-- the journal of the files is of format 1, and its entries are not converted
+pub record ConvertsInVain (files : AirportFiles) (before : DiskState)
+    (fault : OpenFault) : Type 0 where
   pub old : List (List ℕ)
   pub was : IfSome before.contents (λ bytes. old_opening_of files.digests bytes ≡ Ok (Some old))
-  pub cause : CannotLift files.airport old fault
+  pub cause : CannotConvert files.airport old fault
 
 -- Why the journal of the files was not upgraded: the disk failed, or there is no memory, or it is
--- what the disk reads as. If the disk did not fail, it reads as before.
-abbrev pub NotUpgraded : AirportFiles → DiskSeen → DiskSeen → Unusable → Type 0
-NotUpgraded files before after (Journal journal.DiskFault) = Counts true before.faults after.faults
+-- what the disk reads as. If the disk did not fail, nothing was written.
+abbrev pub NotUpgraded : AirportFiles → DiskState → DiskState → Unusable → Type 0
+NotUpgraded files before after (Journal journal.DiskFault) =
+    Counts true before.faults after.faults × LeavesStopped files before after
 NotUpgraded files before after (Journal journal.NotEmpty) = ⊥
 NotUpgraded files before after (Journal journal.OldFormat) = ⊥
 NotUpgraded files before after (Journal fault) =
-    ReadsAsBefore before after
+    Unwritten before after
     × IfSome before.contents (λ bytes. OldTextFails files.digests bytes fault)
-NotUpgraded files before after (Entries fault) = ReadsAsBefore before after
-    × LiftsInVain files before fault
-
--- the journal of the files was upgraded, with this number of entries, or is of format 2 already; or
--- why neither
-abbrev pub MeetsUpgrade : AirportFiles → DiskSeen → DiskSeen → Result (Option ℕ) Unusable → Type 0
-MeetsUpgrade files before after (Ok (Some count)) = HasUpgraded files before after count
-MeetsUpgrade files before after (Ok None) = IsUpgraded files before after
-MeetsUpgrade files before after (Err why) = NotUpgraded files before after why
+NotUpgraded files before after (Entries fault) = Unwritten before after
+    × ConvertsInVain files before fault
 
 -- what is printed after an upgrade, with the number of entries
 abbrev pub upgraded_text : ℕ → List ℕ
@@ -148,30 +79,20 @@ upgraded_text count = (codes "upgraded " ++ decimal count) ++ codes "\n"
 unfoldable pub already_text : List ℕ
 already_text = codes "already format 2\n"
 
--- the line that tells it, with its status
-abbrev pub TellsUpgrade : Result (Option ℕ) Unusable → SinkState → SinkState → Status → Type 0
-TellsUpgrade (Ok (Some count)) before after status =
-    Writes (upgraded_text count) Done WriteFault before after status
-TellsUpgrade (Ok None) before after status = Writes already_text Done WriteFault before after status
-TellsUpgrade (Err why) before after status = TellsUnusable why before after status
-
--- the journal of these files was upgraded, or not, and the line says so
-pub record UpgradesJournal (files : AirportFiles) (before after : SinkAndDisk)
-    (status : Status) : Type 0 where
-  pub met : Result (Option ℕ) Unusable
-  pub meets : MeetsUpgrade files before.disk after.disk met
-  pub tells : TellsUpgrade met before.sink after.sink status
-
--- the airport file and the type file of these names were read, and this was done with what was
--- found in them
-abbrev pub UpgradesFiles : List ℕ → List ℕ → World → World → Status → Type 0
-UpgradesFiles airport types before after status =
-    DoesWithFiles UpgradesJournal airport types before after status
+-- what the word does at these files: their journal is upgraded, or is of format 2 already
+abbrev pub AtUpgrade : AirportFiles → World → World → End → Type 0
+AtUpgrade files before after (printed text) =
+    OnDisk (λ old new.
+    ((count : ℕ) × (text ≡ upgraded_text count) × HasUpgraded files old new count)
+    ⊎ ((text ≡ already_text) × IsUpgraded files old new)) before after
+AtUpgrade files before after (unusable why) =
+    OnDisk (λ old new. NotUpgraded files old new why) before after
+AtUpgrade files before after end = ⊥
 
 -- the disk tells what it reads as, which is the journal of the files, of format 2 or with entries
--- of format 1 that are lifted
-pub record CanUpgrade (files : AirportFiles) (disk : DiskSeen) : Type 0 where
+-- of format 1 that are converted
+pub record CanUpgrade (files : AirportFiles) (disk : DiskState) : Type 0 where
   pub told : IsSome disk.contents
   pub found : Option (List (List ℕ))
   pub opens : IfSome disk.contents (λ bytes. old_opening_of files.digests bytes ≡ Ok found)
-  pub lifts : IfSome found (λ old. (new : List (List ℕ)) × Lifts files.airport old new)
+  pub converts : IfSome found (λ old. (new : List (List ℕ)) × Converts files.airport old new)

@@ -3,13 +3,10 @@ ghost use Rattle.std.specs.Prelude.{not, Result};
 ghost use Rattle.apron_check.specs.Files.{FindsFiles};
 ghost use Rattle.apron_check.specs.declared.faults.FilesFault.{FilesFault};
 ghost use Rattle.apron_check.specs.declared.files.AirportFiles.{AirportFiles};
-ghost use Rattle.journal_disk.specs.Disk.{Stays};
-ghost use Rattle.apron_run.specs.Chart.{ChartsNamed};
 ghost use Rattle.apron_run.specs.Run.{KeptUnless};
 ghost use Rattle.apron_run.specs.Statuses.{exit_code};
-ghost use Rattle.apron_run.specs.TwoFiles.{DoesFound};
 ghost use Rattle.apron_run.specs.Words.{ends_before_chart};
-ghost use Rattle.apron_run.specs.World.{sink_and_disk_at};
+ghost use Rattle.apron_run.specs.Carried.{ChartsNamed, DoesFound, sink_and_disk_at};
 
 use crate::Status;
 use crate::check::print_fault;
@@ -40,7 +37,6 @@ pub(crate) fn run_chart<F: Shelf, W: Sink, D: Disk>(
         × DoesFound (ChartsNamed day.now) found
         (sink_and_disk_at (W.state sink.old) (D.state disk.old))
         (sink_and_disk_at (W.state sink.new) (D.state disk.new)) result }
-    ensures crash { Stays (D.state disk.old) (D.state disk.new) }
     ensures kept { KeptUnless (not (ends_before_chart (exit_code result))) disk.old disk.new }
 {
     match airport_of(alloc, airport, types, shelf) {
@@ -60,7 +56,6 @@ fn chart_of_day<W: Sink, D: Disk>(
     ensures charts { ChartsNamed day.now files.now
         (sink_and_disk_at (W.state sink.old) (D.state disk.old))
         (sink_and_disk_at (W.state sink.new) (D.state disk.new)) result }
-    ensures crash { Stays (D.state disk.old) (D.state disk.new) }
     ensures kept { KeptUnless (not (ends_before_chart (exit_code result))) disk.old disk.new }
 {
     match number_within(day.as_bytes(), 1, files.airport.parts().days) {

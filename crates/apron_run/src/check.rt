@@ -3,7 +3,8 @@ ghost use Rattle.apron_check.specs.Files.{FindsFiles};
 ghost use Rattle.apron_check.specs.declared.files.AirportFiles.{AirportFiles};
 ghost use Rattle.apron_check.specs.declared.faults.FilesFault.{FilesFault};
 ghost use Rattle.std.specs.Prelude.{Result};
-ghost use Rattle.apron_run.specs.Check.{TellsFault, TellsFound};
+ghost use Rattle.apron_run.specs.Check.{TellsFault};
+ghost use Rattle.apron_run.specs.Carried.{TellsFound};
 
 use crate::Status;
 use crate::status::status_of_fault;

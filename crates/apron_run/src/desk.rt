@@ -1,13 +1,12 @@
 // The word `run_desk`.
-ghost use Rattle.std.specs.Prelude.{◌≡◌, ℕ, not, false, OnErr};
+ghost use Rattle.std.specs.Prelude.{◌≡◌, not, false, OnErr};
+ghost use Rattle.apron_base.specs.Shelf.{ShelfState};
 ghost use Rattle.desk_workers.specs.Watched.{feed_texts};
-ghost use Rattle.journal_disk.specs.Disk.{Stays};
-ghost use Rattle.apron_run.specs.Crash.{MeetsDeskLeaving, RunsDeskLeaving, RunsOnJournalLeaving};
 ghost use Rattle.apron_run.specs.Run.{KeptUnless};
 ghost use Rattle.apron_run.specs.Statuses.{exit_code};
-ghost use Rattle.apron_run.specs.Survival.{from_to};
 ghost use Rattle.apron_run.specs.Words.{ends_at_files, ends_at_journal};
-ghost use Rattle.apron_run.specs.World.{desk_ends_at, world_at};
+ghost use Rattle.apron_run.specs.World.{Unwritten, world_at};
+ghost use Rattle.apron_run.specs.Carried.{MeetsDesk, RunsDesk, RunsOnJournal};
 
 use crate::Status;
 use crate::check::print_fault;
@@ -38,8 +37,7 @@ pub(crate) fn run_desk<F: Shelf, S: Source, W: Sink, D: Disk, R: Stated, T: Note
     sink: &mut W,
     disk: &mut D,
 ) -> Status
-    ensures runs { RunsDeskLeaving (feed_texts R.tells watches.now)
-        (from_to (D.state disk.old) (D.state disk.new)) airport.now types.now
+    ensures runs { RunsDesk (feed_texts R.tells watches.now) airport.now types.now
         (world_at (F.state shelf.old) (S.state source.old) (W.state sink.old) (D.state disk.old))
         (world_at (F.state shelf.new) (S.state source.new) (W.state sink.new) (D.state disk.new))
         result }
@@ -62,10 +60,9 @@ fn run_on_journal<S: Source, W: Sink, D: Disk, R: Stated, T: NoteTest>(
     sink: &mut W,
     disk: &mut D,
 ) -> Status
-    ensures runs { RunsOnJournalLeaving (feed_texts R.tells watches.now)
-        (from_to (D.state disk.old) (D.state disk.new)) files.now
-        (desk_ends_at (S.state source.old) (W.state sink.old) (D.state disk.old))
-        (desk_ends_at (S.state source.new) (W.state sink.new) (D.state disk.new)) result }
+    ensures runs { (shelf : ShelfState) → RunsOnJournal (feed_texts R.tells watches.now) files.now
+        (world_at shelf (S.state source.old) (W.state sink.old) (D.state disk.old))
+        (world_at shelf (S.state source.new) (W.state sink.new) (D.state disk.new)) result }
     ensures untaken { KeptUnless (not (ends_at_journal (exit_code result))) source.old source.new }
     ensures no_file { ends_at_files (exit_code result) ≡ false }
 {
@@ -88,12 +85,11 @@ fn serve_on<'d, N: Named + OfFiles, S: Source, W: Sink, D: Disk, R: Stated, T: N
 ) -> (Result<Outcome, Unusable>, &'d mut D)
     requires named { disk.ghost_name ≡ N.name }
     requires digests { files.now.digests ≡ N.digests }
-    requires begun { Stays N.begun (D.state disk.old) }
+    requires begun { Unwritten N.begun (D.state disk.old) }
     ensures same { result.1.ghost_name ≡ disk.entry.ghost_name }
-    ensures meets { MeetsDeskLeaving (feed_texts R.tells watches.now)
-        (from_to N.begun (D.state result.1.now)) files.now
-        (desk_ends_at (S.state source.old) (W.state sink.old) (D.state disk.old))
-        (desk_ends_at (S.state source.new) (W.state sink.new) (D.state result.1.now)) result.0 }
+    ensures meets { (shelf : ShelfState) → MeetsDesk (feed_texts R.tells watches.now) files.now
+        (world_at shelf (S.state source.old) (W.state sink.old) N.begun)
+        (world_at shelf (S.state source.new) (W.state sink.new) (D.state result.1.now)) result.0 }
     ensures untaken { OnErr result.0 (source.new ≡ source.old) }
 {
     let same: SameDisk<'d, N, D> = SameDisk {
@@ -117,11 +113,10 @@ fn serve_session<N: OfFiles, S: Source, W: Sink, D: Disk, R: Stated, T: NoteTest
     disk: D,
 ) -> (Result<Outcome, Unusable>, D)
     requires digests { files.now.digests ≡ N.digests }
-    requires begun { Stays N.begun (D.state disk) }
-    ensures meets { MeetsDeskLeaving (feed_texts R.tells watches.now)
-        (from_to N.begun (D.state result.1)) files.now
-        (desk_ends_at (S.state source.old) (W.state sink.old) (D.state disk))
-        (desk_ends_at (S.state source.new) (W.state sink.new) (D.state result.1)) result.0 }
+    requires begun { Unwritten N.begun (D.state disk) }
+    ensures meets { (shelf : ShelfState) → MeetsDesk (feed_texts R.tells watches.now) files.now
+        (world_at shelf (S.state source.old) (W.state sink.old) N.begun)
+        (world_at shelf (S.state source.new) (W.state sink.new) (D.state result.1)) result.0 }
     ensures untaken { OnErr result.0 (source.new ≡ source.old) }
 {
     let watched = match open_watched::<N, D, R, T>(alloc, files, watches, disk) {

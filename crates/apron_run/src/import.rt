@@ -1,16 +1,15 @@
 // The word `run_import`.
 ghost use Rattle.std.specs.Prelude.{◌≡◌, false, not, Result};
+ghost use Rattle.apron_base.specs.Ends.{SinkState, SourceState};
 ghost use Rattle.apron_base.specs.Shelf.{ShelfState};
-ghost use Rattle.journal_disk.specs.Disk.{Stays};
 ghost use Rattle.apron_check.specs.Files.{FindsFiles};
 ghost use Rattle.apron_check.specs.declared.faults.FilesFault.{FilesFault};
 ghost use Rattle.apron_check.specs.declared.files.AirportFiles.{AirportFiles};
-ghost use Rattle.apron_run.specs.Crash.{ImportsFoundLeaving, ImportsOnJournalLeaving, MeetsImportLeaving};
-ghost use Rattle.apron_run.specs.Import.{around_at, stores_at};
 ghost use Rattle.apron_run.specs.Run.{KeptUnless};
 ghost use Rattle.apron_run.specs.Statuses.{exit_code};
-ghost use Rattle.apron_run.specs.Survival.{from_to};
 ghost use Rattle.apron_run.specs.Words.{ends_before_import};
+ghost use Rattle.apron_run.specs.World.{Unwritten, world_at};
+ghost use Rattle.apron_run.specs.Carried.{ImportsFound, ImportsOnJournal, MeetsImport};
 
 use crate::Status;
 use crate::check::print_fault;
@@ -37,11 +36,12 @@ pub(crate) fn run_import<F: Shelf, W: Sink, D: Disk>(
     sink: &mut W,
     disk: &mut D,
 ) -> Status
-    ensures imports { (found : Result AirportFiles FilesFault) × (mid : ShelfState)
+    ensures imports { (source : SourceState) → (found : Result AirportFiles FilesFault)
+        × (mid : ShelfState)
         × FindsFiles (F.state shelf.old) mid airport.now types.now found
-        × ImportsFoundLeaving (from_to (D.state disk.old) (D.state disk.new)) found season.now
-        (around_at mid (D.state disk.old) (W.state sink.old))
-        (around_at (F.state shelf.new) (D.state disk.new) (W.state sink.new)) result }
+        × ImportsFound found season.now
+        (world_at mid source (W.state sink.old) (D.state disk.old))
+        (world_at (F.state shelf.new) source (W.state sink.new) (D.state disk.new)) result }
     ensures kept { KeptUnless (not (ends_before_import (exit_code result))) disk.old disk.new }
 {
     match airport_of(alloc, airport, types, shelf) {
@@ -59,10 +59,9 @@ fn import_season<F: Shelf, W: Sink, D: Disk>(
     sink: &mut W,
     disk: &mut D,
 ) -> Status
-    ensures imports { ImportsOnJournalLeaving (from_to (D.state disk.old) (D.state disk.new))
-        files.now season.now
-        (around_at (F.state shelf.old) (D.state disk.old) (W.state sink.old))
-        (around_at (F.state shelf.new) (D.state disk.new) (W.state sink.new)) result }
+    ensures imports { (source : SourceState) → ImportsOnJournal files.now season.now
+        (world_at (F.state shelf.old) source (W.state sink.old) (D.state disk.old))
+        (world_at (F.state shelf.new) source (W.state sink.new) (D.state disk.new)) result }
     ensures comes { ends_before_import (exit_code result) ≡ false }
 {
     let (met, _disk) = import_on::<Brand, F, D>(alloc, files, season, shelf, disk);
@@ -82,11 +81,11 @@ fn import_on<'d, N: Named + OfFiles, F: Shelf, D: Disk>(
 ) -> (Result<Imported, Unusable>, &'d mut D)
     requires named { disk.ghost_name ≡ N.name }
     requires digests { files.now.digests ≡ N.digests }
-    requires begun { Stays N.begun (D.state disk.old) }
+    requires begun { Unwritten N.begun (D.state disk.old) }
     ensures same { result.1.ghost_name ≡ disk.entry.ghost_name }
-    ensures meets { MeetsImportLeaving (from_to N.begun (D.state result.1.now)) files.now season.now
-        (stores_at (F.state shelf.old) (D.state disk.old))
-        (stores_at (F.state shelf.new) (D.state result.1.now)) result.0 }
+    ensures meets { (source : SourceState) (sink : SinkState) → MeetsImport files.now season.now
+        (world_at (F.state shelf.old) source sink N.begun)
+        (world_at (F.state shelf.new) source sink (D.state result.1.now)) result.0 }
 {
     let same: SameDisk<'d, N, D> = SameDisk {
         disk,
@@ -106,10 +105,10 @@ fn import_into<N: OfFiles, F: Shelf, D: Disk>(
     disk: D,
 ) -> (Result<Imported, Unusable>, D)
     requires digests { files.now.digests ≡ N.digests }
-    requires begun { Stays N.begun (D.state disk) }
-    ensures meets { MeetsImportLeaving (from_to N.begun (D.state result.1)) files.now season.now
-        (stores_at (F.state shelf.old) (D.state disk))
-        (stores_at (F.state shelf.new) (D.state result.1)) result.0 }
+    requires begun { Unwritten N.begun (D.state disk) }
+    ensures meets { (source : SourceState) (sink : SinkState) → MeetsImport files.now season.now
+        (world_at (F.state shelf.old) source sink N.begun)
+        (world_at (F.state shelf.new) source sink (D.state result.1)) result.0 }
 {
     let mut board = match open_board::<N, D>(alloc, files, Access::Appends, disk) {
         Ok(board) => board,

@@ -1,9 +1,10 @@
 // How an import ended, and the line that tells it. Writing one takes no memory.
 ghost use Rattle.std.specs.Prelude.{◌≡◌, ◌++◌, codes, decimal, false};
 ghost use Rattle.apron_base.specs.Ends.{Puts};
-ghost use Rattle.apron_run.specs.Imported.{TellsImported, imported_line, imported_text, status_of_imported};
+ghost use Rattle.apron_run.specs.Imported.{imported_line, imported_text, status_of_imported};
 ghost use Rattle.apron_run.specs.Statuses.{exit_code};
 ghost use Rattle.apron_run.specs.Words.{ends_before_import};
+ghost use Rattle.apron_run.specs.Carried.{TellsImported};
 
 use crate::Status;
 use apron_base::{Failed, Sink};

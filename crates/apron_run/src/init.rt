@@ -3,12 +3,10 @@ ghost use Rattle.std.specs.Prelude.{◌≡◌, false, not, Result};
 ghost use Rattle.apron_check.specs.Files.{FindsFiles};
 ghost use Rattle.apron_check.specs.declared.faults.FilesFault.{FilesFault};
 ghost use Rattle.apron_check.specs.declared.files.AirportFiles.{AirportFiles};
-ghost use Rattle.apron_run.specs.Crash.{InitsFoundLeaving, MakesJournalLeaving};
 ghost use Rattle.apron_run.specs.Run.{KeptUnless};
 ghost use Rattle.apron_run.specs.Statuses.{exit_code};
-ghost use Rattle.apron_run.specs.Survival.{from_to};
 ghost use Rattle.apron_run.specs.Words.{ends_before_journal};
-ghost use Rattle.apron_run.specs.World.{sink_and_disk_at};
+ghost use Rattle.apron_run.specs.Carried.{DoesFound, MakesJournal, sink_and_disk_at};
 
 use crate::Status;
 use crate::check::print_fault;
@@ -31,7 +29,7 @@ pub(crate) fn run_init<F: Shelf, W: Sink, D: Disk>(
 ) -> Status
     ensures inits { (found : Result AirportFiles FilesFault)
         × FindsFiles (F.state shelf.old) (F.state shelf.new) airport.now types.now found
-        × InitsFoundLeaving (from_to (D.state disk.old) (D.state disk.new)) found
+        × DoesFound MakesJournal found
         (sink_and_disk_at (W.state sink.old) (D.state disk.old))
         (sink_and_disk_at (W.state sink.new) (D.state disk.new)) result }
     ensures kept { KeptUnless (not (ends_before_journal (exit_code result))) disk.old disk.new }
@@ -44,7 +42,7 @@ pub(crate) fn run_init<F: Shelf, W: Sink, D: Disk>(
 
 // The journal of these files.
 fn make_journal<W: Sink, D: Disk>(files: &AirportFiles, sink: &mut W, disk: &mut D) -> Status
-    ensures makes { MakesJournalLeaving (from_to (D.state disk.old) (D.state disk.new)) files.now
+    ensures makes { MakesJournal files.now
         (sink_and_disk_at (W.state sink.old) (D.state disk.old))
         (sink_and_disk_at (W.state sink.new) (D.state disk.new)) result }
     ensures comes { ends_before_journal (exit_code result) ≡ false }

@@ -5,9 +5,9 @@ ghost use Rattle.history_core.specs.AtRisk.{read_entry_at_risk};
 ghost use Rattle.history_core.specs.Board.{entry_texts};
 ghost use Rattle.journal_disk.specs.Disk.{Does, Stays};
 ghost use Rattle.journal_disk.specs.Extent.{opening_calls};
-ghost use Rattle.apron_run.specs.Journal.{HasEntries, IsOpened, KeepsHistory, NotOpened, journal_tells};
-ghost use Rattle.apron_run.specs.Survival.{Survives, from_to};
-ghost use Rattle.apron_run.specs.World.{disk_seen};
+ghost use Rattle.apron_run.specs.Journal.{KeepsHistory, NotOpened};
+ghost use Rattle.apron_run.specs.Opened.{HasEntries, IsOpened, journal_tells};
+ghost use Rattle.apron_run.specs.Survival.{Survives};
 
 use crate::files_journal::{FilesJournal, OfFiles};
 use crate::unusable::Unusable;
@@ -28,7 +28,7 @@ pub enum Access {
 }
 
 /// Opens the journal of these files on the disk, and the board of its entries. At `Err` comes why
-/// there is none to work on, and the disk, which reads as before.
+/// there is none to work on, and the disk, on which nothing was written.
 pub fn open_board<'f, N: OfFiles, D: Disk>(
     alloc: Global,
     files: &'f AirportFiles,
@@ -38,14 +38,13 @@ pub fn open_board<'f, N: OfFiles, D: Disk>(
     requires digests { files.now.digests ≡ N.digests }
     requires begun { Stays N.begun (D.state disk) }
     ensures opened { IfOk result
-        (IsOpened (journal_tells D.state) files.entry.now (disk_seen (D.state disk))) }
+        (IsOpened (journal_tells D.state) files.entry.now (D.state disk)) }
     ensures again { IfOk result (λ board. access ≡ Access.Appends
         → Does (opening_calls board.keeper.extent.place (entry_texts board.history))
         (D.state disk) (D.state board.keeper.disk)) }
     ensures stays { IfOk result (λ board. Stays (D.state disk) (D.state board.keeper.disk)) }
-    ensures refused { IfErr result (λ refusal. NotOpened files.entry.now (disk_seen (D.state disk))
-        (disk_seen (D.state refusal.1)) refusal.0) }
-    ensures unwritten { IfErr result (λ refusal. Stays (D.state disk) (D.state refusal.1)) }
+    ensures refused { IfErr result (λ refusal. NotOpened files.entry.now (D.state disk)
+        (D.state refusal.1) refusal.0) }
 {
     let (journal, entries) = open_journal(alloc, files, access, disk)?;
     match Board::open(alloc, &files.airport, journal, entries) {
@@ -64,16 +63,15 @@ pub fn open_watched<'f, N: OfFiles, D: Disk, R: Stated, T: NoteTest>(
     requires digests { files.now.digests ≡ N.digests }
     requires begun { Stays N.begun (D.state disk) }
     ensures opened { IfOk result (λ made.
-        IsOpened (journal_tells D.state) files.entry.now (disk_seen (D.state disk)) made.board) }
+        IsOpened (journal_tells D.state) files.entry.now (D.state disk) made.board) }
     ensures watches { IfOk result (λ made. made.watches ≡ watches.entry.now) }
     ensures next { IfOk result (λ made. made.next ≡ made.board.next) }
     ensures again { IfOk result (λ made.
         Does (opening_calls made.board.keeper.extent.place (entry_texts made.board.history))
         (D.state disk) (D.state made.board.keeper.disk)) }
     ensures stays { IfOk result (λ made. Stays (D.state disk) (D.state made.board.keeper.disk)) }
-    ensures refused { IfErr result (λ refusal. NotOpened files.entry.now (disk_seen (D.state disk))
-        (disk_seen (D.state refusal.1)) refusal.0) }
-    ensures unwritten { IfErr result (λ refusal. Stays (D.state disk) (D.state refusal.1)) }
+    ensures refused { IfErr result (λ refusal. NotOpened files.entry.now (D.state disk)
+        (D.state refusal.1) refusal.0) }
 {
     let (journal, entries) = open_journal(alloc, files, Access::Appends, disk)?;
     match WatchBoard::open(alloc, &files.airport, journal, entries, watches) {
@@ -92,15 +90,14 @@ fn open_journal<N: OfFiles, D: Disk>(
 ) -> Result<(FilesJournal<N, D>, Vec<Listed<u8>>), (Unusable, D)>
     requires digests { files.now.digests ≡ N.digests }
     requires begun { Stays N.begun (D.state disk) }
-    ensures entries { IfOk result (λ opened. HasEntries files.now.digests (disk_seen (D.state disk))
+    ensures entries { IfOk result (λ opened. HasEntries files.now.digests (D.state disk)
         (journal_tells D.state opened.0) opened.1.items) }
     ensures again { IfOk result (λ opened. access ≡ Access.Appends
         → Does (opening_calls opened.0.extent.place opened.1.items)
         (D.state disk) (D.state opened.0.disk)) }
     ensures stays { IfOk result (λ opened. Stays (D.state disk) (D.state opened.0.disk)) }
     ensures refused { IfErr result (λ refusal.
-        NotOpened files.now (disk_seen (D.state disk)) (disk_seen (D.state refusal.1)) refusal.0) }
-    ensures unwritten { IfErr result (λ refusal. Stays (D.state disk) (D.state refusal.1)) }
+        NotOpened files.now (D.state disk) (D.state refusal.1) refusal.0) }
 {
     match access {
         Access::Reads => match Journal::open(alloc, disk, &files.digests) {
@@ -121,10 +118,10 @@ pub fn close_board<N: OfFiles, D: Disk>(board: Board<'_, FilesJournal<N, D>>) ->
     ensures keeps { KeepsHistory (record { airport = board.entry.airport; digests = N.digests })
         board.entry.history
         (read_entry_at_risk board.entry.airport (journal_tells D.state board.entry.keeper))
-        (disk_seen (D.state result)) }
+        (D.state result) }
     ensures survives { Survives N.digests board.entry.history
         (read_entry_at_risk board.entry.airport (journal_tells D.state board.entry.keeper))
-        (from_to N.begun (D.state result)) }
+        N.begun (D.state result) }
     ensures disk { result ≡ board.entry.keeper.disk }
     ensures legal { IsLegal board.entry.airport board.entry.history }
 {

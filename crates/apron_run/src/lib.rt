@@ -5,6 +5,7 @@
 
 mod chart;
 mod check;
+mod converting;
 mod desk;
 mod export;
 mod files_journal;
@@ -13,7 +14,6 @@ mod imported;
 mod init;
 mod journal;
 mod laws;
-mod lifting;
 mod make;
 mod plan_text;
 mod print;
@@ -34,4 +34,4 @@ pub use print::print_usage;
 pub use program::{run, run_with};
 pub use status::Status;
 pub use unusable::{Unusable, tell_unusable};
-pub use words::is_plain_number;
+pub use words::{is_plain_number, plain_number};

@@ -1,7 +1,8 @@
 // The word `run_make`.
 ghost use Rattle.std.specs.Prelude.{◌≤◌, IfOk};
 ghost use Rattle.generated_day.specs.Days.{most_made};
-ghost use Rattle.apron_run.specs.Make.{IsDayLine, TellsDay};
+ghost use Rattle.apron_run.specs.Make.{IsDayLine};
+ghost use Rattle.apron_run.specs.Carried.{TellsDay};
 
 use crate::Status;
 use crate::check::print_fault;

@@ -5,12 +5,10 @@ ghost use Rattle.apron_check.specs.Files.{FindsFiles};
 ghost use Rattle.apron_check.specs.declared.faults.FilesFault.{FilesFault};
 ghost use Rattle.apron_check.specs.declared.files.AirportFiles.{AirportFiles};
 ghost use Rattle.journal_disk.specs.Disk.{Stays};
-ghost use Rattle.apron_run.specs.PlanText.{MeetsText, PrintsText};
 ghost use Rattle.apron_run.specs.Run.{KeptUnless};
 ghost use Rattle.apron_run.specs.Statuses.{exit_code};
-ghost use Rattle.apron_run.specs.TwoFiles.{DoesFound};
 ghost use Rattle.apron_run.specs.Words.{ends_at_files, ends_before_chart};
-ghost use Rattle.apron_run.specs.World.{disk_seen, sink_and_disk_at};
+ghost use Rattle.apron_run.specs.Carried.{DoesFound, MeetsText, PrintsText, sink_and_disk_at};
 
 use crate::Status;
 use crate::check::print_fault;
@@ -70,7 +68,6 @@ pub(crate) fn print_of_files<T: PlanText, F: Shelf, W: Sink, D: Disk>(
         × DoesFound (PrintsText (T.answers asked.now)) found
         (sink_and_disk_at (W.state sink.old) (D.state disk.old))
         (sink_and_disk_at (W.state sink.new) (D.state disk.new)) result }
-    ensures crash { Stays (D.state disk.old) (D.state disk.new) }
     ensures kept { KeptUnless (not (ends_at_files (exit_code result))) disk.old disk.new }
 {
     match airport_of(alloc, airport, types, shelf) {
@@ -92,7 +89,6 @@ pub(crate) fn print_of_journal<T: PlanText, W: Sink, D: Disk>(
     ensures prints { PrintsText (T.answers asked.now) files.now
         (sink_and_disk_at (W.state sink.old) (D.state disk.old))
         (sink_and_disk_at (W.state sink.new) (D.state disk.new)) result }
-    ensures crash { Stays (D.state disk.old) (D.state disk.new) }
     ensures comes { ends_before_chart (exit_code result) ≡ false }
 {
     let (met, _disk) = text_on::<Brand, T, D>(alloc, files, asked, disk);
@@ -115,9 +111,8 @@ fn text_on<'d, N: Named + OfFiles, T: PlanText, D: Disk>(
     requires begun { Stays N.begun (D.state disk.old) }
     requires fits { T.fits asked.now files.now.airport }
     ensures same { result.1.ghost_name ≡ disk.entry.ghost_name }
-    ensures meets { MeetsText (T.answers asked.now) files.now (disk_seen (D.state disk.old))
-        (disk_seen (D.state result.1.now)) result.0 }
-    ensures crash { Stays (D.state disk.old) (D.state result.1.now) }
+    ensures meets { MeetsText (T.answers asked.now) files.now (D.state disk.old)
+        (D.state result.1.now) result.0 }
 {
     let same: SameDisk<'d, N, D> = SameDisk {
         disk,
@@ -138,9 +133,8 @@ fn text_of_board<N: OfFiles, T: PlanText, D: Disk>(
     requires digests { files.now.digests ≡ N.digests }
     requires begun { Stays N.begun (D.state disk) }
     requires fits { T.fits asked.now files.now.airport }
-    ensures meets { MeetsText (T.answers asked.now) files.now (disk_seen (D.state disk))
-        (disk_seen (D.state result.1)) result.0 }
-    ensures crash { Stays (D.state disk) (D.state result.1) }
+    ensures meets { MeetsText (T.answers asked.now) files.now (D.state disk)
+        (D.state result.1) result.0 }
 {
     let board = match open_board::<N, D>(alloc, files, Access::Reads, disk) {
         Ok(board) => board,

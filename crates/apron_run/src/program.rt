@@ -2,13 +2,12 @@
 ghost use Rattle.std.specs.Prelude.{◌≡◌, ℕ, List, [], true};
 ghost use Rattle.desk_workers.specs.Watched.{feed_texts};
 ghost use Rattle.watch_list.specs.Watches.{shows};
+ghost use Rattle.apron_run.specs.Carried.{CarriedAs};
 ghost use Rattle.apron_run.specs.Causes.{FaultsHaveCause};
 ghost use Rattle.apron_run.specs.Complete.{IsRunComplete};
-ghost use Rattle.apron_run.specs.Crash.{CrashesAs};
 ghost use Rattle.apron_run.specs.Headline.{TellsHeadline};
 ghost use Rattle.apron_run.specs.Run.{KeptUnless, RunsAs};
 ghost use Rattle.apron_run.specs.Statuses.{exit_code};
-ghost use Rattle.apron_run.specs.Survival.{from_to};
 ghost use Rattle.apron_run.specs.Words.{desk as desk_word, faulty, may_be_usage, subcommand_of, uses_disk, uses_shelf, uses_source};
 ghost use Rattle.apron_run.specs.World.{world_at};
 
@@ -93,11 +92,6 @@ pub fn run_with<F: Shelf, S: Source, W: Sink, D: Disk, R: Stated, T: NoteTest>(
         (world_at (F.state shelf.old) (S.state source.old) (W.state sink.old) (D.state disk.old))
         (world_at (F.state shelf.new) (S.state source.new) (W.state sink.new) (D.state disk.new))
         result }
-    ensures crash { CrashesAs (feed_texts R.tells watches.now)
-        (from_to (D.state disk.old) (D.state disk.new)) (subcommand_of words.now)
-        (world_at (F.state shelf.old) (S.state source.old) (W.state sink.old) (D.state disk.old))
-        (world_at (F.state shelf.new) (S.state source.new) (W.state sink.new) (D.state disk.new))
-        result }
     ensures usage { subcommand_of words.now ≡ faulty → result ≡ exit_code Status.Usage }
     ensures usage_alone { result ≡ exit_code Status.Usage
         → may_be_usage (subcommand_of words.now) ≡ true }
@@ -135,11 +129,6 @@ pub fn run<F: Shelf, S: Source, W: Sink, D: Disk>(
         (world_at (F.state shelf.old) (S.state source.old) (W.state sink.old) (D.state disk.old))
         (world_at (F.state shelf.new) (S.state source.new) (W.state sink.new) (D.state disk.new))
         result }
-    ensures crash { CrashesAs (feed_texts shows [])
-        (from_to (D.state disk.old) (D.state disk.new)) (subcommand_of words.now)
-        (world_at (F.state shelf.old) (S.state source.old) (W.state sink.old) (D.state disk.old))
-        (world_at (F.state shelf.new) (S.state source.new) (W.state sink.new) (D.state disk.new))
-        result }
     ensures usage { subcommand_of words.now ≡ faulty → result ≡ exit_code Status.Usage }
     ensures usage_alone { result ≡ exit_code Status.Usage
         → may_be_usage (subcommand_of words.now) ≡ true }
@@ -162,12 +151,7 @@ fn run_words<F: Shelf, S: Source, W: Sink, D: Disk, R: Stated, T: NoteTest>(
     sink: &mut W,
     disk: &mut D,
 ) -> Status
-    ensures runs { RunsAs (feed_texts R.tells watches.now) (subcommand_of words.now)
-        (world_at (F.state shelf.old) (S.state source.old) (W.state sink.old) (D.state disk.old))
-        (world_at (F.state shelf.new) (S.state source.new) (W.state sink.new) (D.state disk.new))
-        (exit_code result) }
-    ensures crash { CrashesAs (feed_texts R.tells watches.now)
-        (from_to (D.state disk.old) (D.state disk.new)) (subcommand_of words.now)
+    ensures runs { CarriedAs (feed_texts R.tells watches.now) (subcommand_of words.now)
         (world_at (F.state shelf.old) (S.state source.old) (W.state sink.old) (D.state disk.old))
         (world_at (F.state shelf.new) (S.state source.new) (W.state sink.new) (D.state disk.new))
         (exit_code result) }

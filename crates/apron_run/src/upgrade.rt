@@ -1,20 +1,18 @@
 // The word `run_upgrade`.
-ghost use Rattle.std.specs.Prelude.{◌≡◌, ℕ, Option, Result, false, not};
+ghost use Rattle.std.specs.Prelude.{◌≡◌, Option, Result, false, not};
 ghost use Rattle.apron_base.specs.Ends.{Puts};
 ghost use Rattle.apron_check.specs.Files.{FindsFiles};
 ghost use Rattle.apron_check.specs.declared.faults.FilesFault.{FilesFault};
 ghost use Rattle.apron_check.specs.declared.files.AirportFiles.{AirportFiles};
 ghost use Rattle.apron_run.specs.Run.{KeptUnless};
 ghost use Rattle.apron_run.specs.Statuses.{exit_code};
-ghost use Rattle.apron_run.specs.Survival.{from_to};
-ghost use Rattle.apron_run.specs.Upgrade.{TellsUpgrade, already_text, upgraded_text};
-ghost use Rattle.apron_run.specs.UpgradeCrash.{MeetsUpgradeLeaving, UpgradesFoundLeaving, UpgradesJournalLeaving};
+ghost use Rattle.apron_run.specs.Upgrade.{already_text, upgraded_text};
 ghost use Rattle.apron_run.specs.Words.{ends_at_files};
-ghost use Rattle.apron_run.specs.World.{disk_seen, sink_and_disk_at};
+ghost use Rattle.apron_run.specs.Carried.{DoesFound, MeetsUpgrade, TellsUpgrade, UpgradesJournal, sink_and_disk_at};
 
 use crate::Status;
 use crate::check::print_fault;
-use crate::lifting::lift_entries;
+use crate::converting::convert_entries;
 use crate::print::print;
 use crate::same_disk::{Named, SameDisk};
 use crate::unusable::{Unusable, tell_unusable};
@@ -37,7 +35,7 @@ pub(crate) fn run_upgrade<F: Shelf, W: Sink, D: Disk>(
 ) -> Status
     ensures upgrades { (found : Result AirportFiles FilesFault)
         × FindsFiles (F.state shelf.old) (F.state shelf.new) airport.now types.now found
-        × UpgradesFoundLeaving (from_to (D.state disk.old) (D.state disk.new)) found
+        × DoesFound UpgradesJournal found
         (sink_and_disk_at (W.state sink.old) (D.state disk.old))
         (sink_and_disk_at (W.state sink.new) (D.state disk.new)) result }
     ensures kept { KeptUnless (not (ends_at_files (exit_code result))) disk.old disk.new }
@@ -55,8 +53,7 @@ fn upgrade_journal<W: Sink, D: Disk>(
     sink: &mut W,
     disk: &mut D,
 ) -> Status
-    ensures upgrades { UpgradesJournalLeaving (from_to (D.state disk.old) (D.state disk.new))
-        files.now
+    ensures upgrades { UpgradesJournal files.now
         (sink_and_disk_at (W.state sink.old) (D.state disk.old))
         (sink_and_disk_at (W.state sink.new) (D.state disk.new)) result }
     ensures comes { ends_at_files (exit_code result) ≡ false }
@@ -102,9 +99,7 @@ fn upgrade_on<'d, N: Named, D: Disk>(
 ) -> (Result<Option<u32>, Unusable>, &'d mut D)
     requires named { disk.ghost_name ≡ N.name }
     ensures same { result.1.ghost_name ≡ disk.entry.ghost_name }
-    ensures meets { MeetsUpgradeLeaving (from_to (D.state disk.old) (D.state result.1.now))
-        files.now
-        (disk_seen (D.state disk.old)) (disk_seen (D.state result.1.now)) result.0 }
+    ensures meets { MeetsUpgrade files.now (D.state disk.old) (D.state result.1.now) result.0 }
 {
     let same: SameDisk<'d, N, D> = SameDisk {
         disk,
@@ -122,15 +117,14 @@ fn upgrade_disk<D: Disk>(
     files: &AirportFiles,
     disk: D,
 ) -> (Result<Option<u32>, Unusable>, D)
-    ensures meets { MeetsUpgradeLeaving (from_to (D.state disk) (D.state result.1)) files.now
-        (disk_seen (D.state disk)) (disk_seen (D.state result.1)) result.0 }
+    ensures meets { MeetsUpgrade files.now (D.state disk) (D.state result.1) result.0 }
 {
     let old = match open_old(alloc, disk, &files.digests) {
         Ok(Found::Old(old)) => old,
         Ok(Found::New(disk)) => return (Ok(None), disk),
         Err((fault, disk)) => return (Err(Unusable::Journal(fault)), disk),
     };
-    let new = match lift_entries(alloc, &files.airport, old.entries()) {
+    let new = match convert_entries(alloc, &files.airport, old.entries()) {
         Ok(new) => new,
         Err(fault) => return (Err(Unusable::Entries(fault)), old.into_disk()),
     };

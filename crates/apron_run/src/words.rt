@@ -1,9 +1,11 @@
 // What the words of the command line ask for.
-ghost use Rattle.std.specs.Prelude.{◌≡◌, ◌≤◌, IfSome};
+#![tactic(auto, unfolding(crate::specs::Words::subcommand_of))]
+
+ghost use Rattle.std.specs.Prelude.{◌≡◌, ◌==◌, ◌&&◌, ◌≤◌, IfSome, [], ◌∷◌, is_some, length, nat_le, slice_index};
 ghost use Rattle.std.specs.Char.{is_ascii_digit};
 ghost use Rattle.std.specs.List.{list_all};
-ghost use Rattle.generated_day.specs.Days.{most_made};
-ghost use Rattle.apron_run.specs.Words.{asked_by_one, asked_of_draft, asked_of_files, asked_of_more, asked_with_number, if_within, is_padded, is_plain_number, last_draft, make_subcommand, number_within, proposed_of, proposed_to, subcommand_of};
+ghost use Rattle.apron_base.specs.Name.{is_name};
+ghost use Rattle.apron_run.specs.Words.{if_within, is_number, is_plain_number, number_within, subcommand_of, value_of};
 ghost use Rattle.apron_run.specs.WordsShown.{IsFitting, subcommand_shown};
 
 use apron_base::{MAX_DIGITS, Name, Word, number_of};
@@ -39,7 +41,9 @@ pub(crate) enum Subcommand<'w> {
     Faulty,
 }
 
-/// What the words ask for.
+/// What the words ask for. For each number of words a function has the forms of so many, in the
+/// order of the table `forms`.
+#[tactic(auto, using(crate::proofs::Forms::counted))]
 pub(crate) fn subcommand_of(words: &[Word]) -> Subcommand<'_>
     ensures asked { subcommand_shown result ≡ subcommand_of words.now }
     ensures fits { IsFitting result }
@@ -63,7 +67,7 @@ pub(crate) fn subcommand_of(words: &[Word]) -> Subcommand<'_>
 }
 
 fn asked_by_one(word: &str) -> Subcommand<'_>
-    ensures asked { subcommand_shown result ≡ asked_by_one word.now }
+    ensures asked { subcommand_shown result ≡ subcommand_of (word.now ∷ []) }
     ensures fits { IsFitting result }
 {
     if word == "--help" {
@@ -75,20 +79,35 @@ fn asked_by_one(word: &str) -> Subcommand<'_>
     }
 }
 
-fn asked_of_files<'w>(word: &str, airport: &'w str, types: &'w str) -> Subcommand<'w>
-    ensures asked { subcommand_shown result ≡ asked_of_files word.now airport.now types.now }
+fn asked_with_number<'w>(word: &str, number: &str) -> Subcommand<'w>
+    ensures asked { subcommand_shown result ≡ subcommand_of (word.now ∷ number.now ∷ []) }
     ensures fits { IsFitting result }
 {
-    if word == "desk" {
-        Subcommand::Desk(airport, types)
-    } else if word == "init" {
+    if word == "make" {
+        match plain_number(number.as_bytes(), 1, MAX_MADE) {
+            Some(visits) => Subcommand::Make(visits),
+            None => Subcommand::Faulty,
+        }
+    } else {
+        Subcommand::Faulty
+    }
+}
+
+fn asked_of_files<'w>(word: &str, airport: &'w str, types: &'w str) -> Subcommand<'w>
+    ensures asked { subcommand_shown result
+        ≡ subcommand_of (word.now ∷ airport.now ∷ types.now ∷ []) }
+    ensures fits { IsFitting result }
+{
+    if word == "init" {
         Subcommand::Init(airport, types)
-    } else if word == "check" {
-        Subcommand::Check(airport, types)
+    } else if word == "desk" {
+        Subcommand::Desk(airport, types)
     } else if word == "export" {
         Subcommand::Export(airport, types)
     } else if word == "upgrade" {
         Subcommand::Upgrade(airport, types)
+    } else if word == "check" {
+        Subcommand::Check(airport, types)
     } else {
         Subcommand::Faulty
     }
@@ -96,7 +115,7 @@ fn asked_of_files<'w>(word: &str, airport: &'w str, types: &'w str) -> Subcomman
 
 fn asked_of_more<'w>(word: &str, airport: &'w str, types: &'w str, more: &'w Word) -> Subcommand<'w>
     ensures asked { subcommand_shown result
-        ≡ asked_of_more word.now airport.now types.now more.now }
+        ≡ subcommand_of (word.now ∷ airport.now ∷ types.now ∷ more.now ∷ []) }
     ensures fits { IsFitting result }
 {
     if word == "import" {
@@ -116,61 +135,51 @@ fn asked_of_draft<'w>(
     draft: &str,
 ) -> Subcommand<'w>
     ensures asked { subcommand_shown result
-        ≡ asked_of_draft word.now airport.now types.now desk.now draft.now }
+        ≡ subcommand_of (word.now ∷ airport.now ∷ types.now ∷ desk.now ∷ draft.now ∷ []) }
     ensures fits { IsFitting result }
 {
-    if word == "propose" && is_plain_number(draft.as_bytes()) {
-        proposed_of(airport, types, desk, draft.as_bytes())
+    if word == "propose" {
+        match desk_named(desk.as_bytes()) {
+            Some(name) => match plain_number(draft.as_bytes(), 0, u32::MAX) {
+                Some(number) => Subcommand::Propose(airport, types, name, number),
+                None => Subcommand::Faulty,
+            },
+            None => Subcommand::Faulty,
+        }
     } else {
         Subcommand::Faulty
     }
 }
 
-fn proposed_of<'w>(airport: &'w str, types: &'w str, desk: &str, draft: &[u8]) -> Subcommand<'w>
-    ensures asked { subcommand_shown result
-        ≡ proposed_of airport.now types.now desk.now (number_within draft.now 0 last_draft) }
-    ensures fits { IsFitting result }
+// The name of a desk that the text is, if it is one.
+fn desk_named(text: &[u8]) -> Option<Name>
+    ensures some { is_some result ≡ is_name text.now }
+    ensures same { IfSome result (λ name. name ≡ text.now) }
 {
-    match number_within(draft, 0, u32::MAX) {
-        Some(draft) => proposed_to(airport, types, desk.as_bytes(), draft),
-        None => Subcommand::Faulty,
-    }
+    Name::new(text)
 }
 
-fn proposed_to<'w>(airport: &'w str, types: &'w str, desk: &[u8], draft: u32) -> Subcommand<'w>
-    ensures asked { subcommand_shown result ≡ proposed_to airport.now types.now desk.now draft }
-    ensures fits { IsFitting result }
+/// The number from the first to the last that a text writes, in 1 to 10 digits of which the first
+/// is no zero unless it is alone. `None` for every other text.
+#[tactic(auto, unfolding(crate::specs::Words::is_number))]
+pub fn plain_number(text: &[u8], first: u32, last: u32) -> Option<u32>
+    ensures some { is_some result ≡ is_number first last text.now }
+    ensures value { IfSome result (λ number. number ≡ value_of text.now) }
+    ensures first { IfSome result (λ number. first ≤ number) }
+    ensures last { IfSome result (λ number. number ≤ last) }
 {
-    match Name::new(desk) {
-        Some(desk) => Subcommand::Propose(airport, types, desk, draft),
-        None => Subcommand::Faulty,
-    }
-}
-
-fn asked_with_number<'w>(word: &str, number: &str) -> Subcommand<'w>
-    ensures asked { subcommand_shown result ≡ asked_with_number word.now number.now }
-    ensures fits { IsFitting result }
-{
-    if word == "make" && is_plain_number(number.as_bytes()) {
-        make_subcommand(number.as_bytes())
+    if is_plain_number(text) {
+        number_within(text, first, last)
     } else {
-        Subcommand::Faulty
-    }
-}
-
-fn make_subcommand<'w>(text: &[u8]) -> Subcommand<'w>
-    ensures asked { subcommand_shown result ≡ make_subcommand (number_within text.now 1 most_made) }
-    ensures fits { IsFitting result }
-{
-    match number_within(text, 1, MAX_MADE) {
-        Some(visits) => Subcommand::Make(visits),
-        None => Subcommand::Faulty,
+        None
     }
 }
 
 /// The number from the first to the last that the digits write, if they write one: 1 to 10 digits.
+#[tactic(auto, unfolding(crate::specs::Words::value_of))]
 pub(crate) fn number_within(text: &[u8], first: u32, last: u32) -> Option<u32>
     ensures is { result ≡ number_within text.now first last }
+    ensures value { IfSome result (λ number. number ≡ value_of text.now) }
     ensures first { IfSome result (λ number. first ≤ number) }
     ensures last { IfSome result (λ number. number ≤ last) }
 {
@@ -179,6 +188,7 @@ pub(crate) fn number_within(text: &[u8], first: u32, last: u32) -> Option<u32>
 
 fn if_within(first: u32, last: u32, number: u64) -> Option<u32>
     ensures is { result ≡ if_within first last number }
+    ensures same { IfSome result (λ kept. kept ≡ number) }
     ensures first { IfSome result (λ number. first ≤ number) }
     ensures last { IfSome result (λ number. number ≤ last) }
 {
@@ -204,7 +214,7 @@ fn are_digits(text: &[u8]) -> bool
 
 // Whether a zero stands before others.
 fn is_padded(text: &[u8]) -> bool
-    ensures is { result ≡ is_padded text.now }
+    ensures is { result ≡ (nat_le 2 (length text.now) && slice_index text.now 0 == 48) }
 {
     text.len() >= 2 && text[0] == b'0'
 }

@@ -19,18 +19,18 @@ use Rattle.apron_run.proofs.Counting.{Lines, lines_of}
 use Rattle.apron_run.proofs.Valid.{found_well, unopened_wants}
 use Rattle.apron_serve.specs.Board.{MeetsDesks, Service}
 use Rattle.apron_serve.specs.Complete.{IsServeComplete}
-use Rattle.apron_serve.specs.Files.{PrintsServeEnd, ServesFiles, ServesFound, ServesTask, TellsFiles, listener_line, no_memory}
+use Rattle.apron_serve.specs.Files.{PrintsServeEnd, ServesFiles, ServesFound, ServesTask, listener_line, no_memory}
 use Rattle.apron_serve.specs.Orders.{Order, day_shown}
 use Rattle.apron_serve.specs.Serve.{ServesAs, SomeFailed}
-use Rattle.apron_serve.specs.World.{ServeOuts, ServeWorld, serve_ends, serve_outs}
+use Rattle.apron_serve.specs.World.{ServeWorld}
 use Rattle.apron_serve.specs.declared.board.ServeEnd.{ServeEnd}
 use Rattle.apron_serve.specs.declared.board.ServeEnd.TheVariants as end
 
 module _ {In Out : Type 0} (service : Service In Out) where
   -- what was met at a journal that opens
-  met_well : (files : AirportFiles) (task : Task) (history : List Entry) (before after : ServeOuts In Out) (met : Result ServeEnd Unusable) (status : Status)
+  met_well : (files : AirportFiles) (task : Task) (history : List Entry) (before after : ServeWorld In Out) (met : Result ServeEnd Unusable) (status : Status)
       → HasJournal files before.disk history → ¬ (Rose before.disk.faults after.disk.faults) → ¬ (status ≡ ListenerFault)
-      → MeetsDesks service files task (serve_ends before) (serve_ends after) met → PrintsServeEnd met before.sink after.sink status → EndsWell (exit_code status)
+      → MeetsDesks service files task before after met → PrintsServeEnd met before.sink after.sink status → EndsWell (exit_code status)
   met_well files task history before after (Ok end.Done) status has still all meets (silent, is) = inl (ap exit_code is)
   met_well files task history before after (Ok end.ListenerFault) status has still all meets tells =
       let lines : Lines status ListenerFault before.sink after.sink = lines_of listener_line ListenerFault before.sink after.sink status tells in absurd (all lines.is)
@@ -40,10 +40,10 @@ module _ {In Out : Type 0} (service : Service In Out) where
   met_well files task history before after (Err why) status has still all meets tells =
       let lines : Lines status (status_of_unusable why) before.sink after.sink =
       lines_of (unusable_line why) (status_of_unusable why) before.sink after.sink status tells in
-      inr (ap exit_code (lines.is ∙ unopened_wants files before.disk after.disk history has why meets.disk still))
+      inr (ap exit_code (lines.is ∙ unopened_wants files before.disk after.disk history has why meets.uses still))
 
   -- what was done if the plan has the day
-  day_well : (files : AirportFiles) (order : Order) (history : List Entry) (day : Option ℕ) (before after : ServeOuts In Out) (status : Status)
+  day_well : (files : AirportFiles) (order : Order) (history : List Entry) (day : Option ℕ) (before after : ServeWorld In Out) (status : Status)
       → HasJournal files before.disk history → ¬ (Rose before.disk.faults after.disk.faults) → ¬ (status ≡ ListenerFault) → IsSome day
       → ServesTask service files (option_map (λ day. record { connections = order.connections; day = day }) day) before after status → EndsWell (exit_code status)
   day_well files order history (Some day) before after status has still all shown journal =
@@ -51,7 +51,7 @@ module _ {In Out : Type 0} (service : Service In Out) where
   day_well files order history None before after status has still all shown journal = absurd cc
 
   -- what was done with files that were found, or for which there was no memory
-  found_served : (files : AirportFiles) (order : Order) (history : List Entry) (before after : ServeOuts In Out) (found : Result AirportFiles FilesFault) (status : Status)
+  found_served : (files : AirportFiles) (order : Order) (history : List Entry) (before after : ServeWorld In Out) (found : Result AirportFiles FilesFault) (status : Status)
       → HasJournal files before.disk history → ¬ (Rose before.disk.faults after.disk.faults) → ¬ (status ≡ ListenerFault) → IsSome (day_shown files.airport order.day)
       → (found ≡ Ok files) ⊎ (found ≡ Err faults.Memory) → ServesFound service order found before after status → EndsWell (exit_code status)
   found_served files order history before after found status has still all shown is serves = ⊎_elim
@@ -59,9 +59,9 @@ module _ {In Out : Type 0} (service : Service In Out) where
       day_well files order history (day_shown files.airport order.day) before after status has still all shown
       (subst (λ (f : Result AirportFiles FilesFault). ServesFound service order f before after status) are serves))
       (λ (wants : found ≡ Err faults.Memory).
-      let tells : TellsFiles faults.Memory before after status =
+      let told : ServesFound service order (Err faults.Memory) before after status =
       subst (λ (f : Result AirportFiles FilesFault). ServesFound service order f before after status) wants serves in
-      let lines : Lines status Memory before.sink after.sink = lines_of _ (status_of_fault faults.Memory) before.sink after.sink status tells.tells in
+      let lines : Lines status Memory before.sink after.sink = lines_of _ (status_of_fault faults.Memory) before.sink after.sink status told.1 in
       inr (ap exit_code lines.is))
       is
 
@@ -77,5 +77,5 @@ module _ {In Out : Type 0} (service : Service In Out) where
       subst (λ (f : Result AirportFiles FilesFault). Counts (is_files_shelf_fault f) before.shelf.faults after.shelf.faults) is finds.counts in
       none.shelf counts.1) in
       subst EndsWell (sym serves.code_is)
-      (found_served files order history (serve_outs before) (serve_outs after) does.found serves.status journal none.disk
+      (found_served files order history before after does.found serves.status journal none.disk
       (λ (is : serves.status ≡ ListenerFault). ⊎_elim none.listeners none.screens (failed (serves.code_is ∙ ap exit_code is))) shown found does.serves)

@@ -13,6 +13,7 @@ use Rattle.history_core.specs.declared.opening.OpenFault.TheVariants as entries
 use Rattle.history_core.proofs.Added.{visits_added}
 use Rattle.history_core.proofs.Drafts.{drafts_made}
 use Rattle.history_core.proofs.Legal.{front_legal, legal_counted, legal_sound}
+use Rattle.journal_disk.specs.Disk.{DiskState, Stays}
 use Rattle.desk_workers.specs.Crew.{ServesBoard, end_of}
 use Rattle.desk_workers.specs.Watched.{fed_sessions}
 use Rattle.screen_feed.specs.Screens.{WriterState}
@@ -22,19 +23,20 @@ use Rattle.screen_server.specs.declared.shown.ShownEnd.{ShownEnd}
 use Rattle.screen_server.specs.declared.shown.Task.{Task}
 use Rattle.apron_check.specs.declared.files.AirportFiles.{AirportFiles}
 use Rattle.apron_run.specs.Headline.{AllSound}
-use Rattle.apron_run.specs.Journal.{IsOpened, KeepsHistory}
-use Rattle.apron_run.specs.World.{DiskSeen}
+use Rattle.apron_run.specs.Journal.{KeepsHistory, NotOpened}
+use Rattle.apron_run.specs.Opened.{IsOpened}
+use Rattle.apron_run.specs.Survival.{Survives}
 use Rattle.apron_run.specs.declared.unusable.Unusable.TheVariants.{Entries}
-use Rattle.apron_serve.specs.Board.{IsNoteOf, ServeFindsNoJournal, ServesDesks, Service, has_missed, opened_board, served_end}
+use Rattle.apron_serve.specs.Board.{IsNoteOf, ServesDesks, Service, has_missed, opened_board, served_end}
 use Rattle.apron_serve.specs.declared.board.ServeEnd.{ServeEnd}
-use Rattle.apron_serve.specs.World.{ServeEnds}
+use Rattle.apron_serve.specs.World.{ServeWorld, Unserved}
 
 -- the plan is sound after each entry of a legal history
 pub all_sound : (airport : AirportParts) (history : List Entry) → IsLegal airport history → AllSound airport history
 all_sound airport history legal = λ front back is. legal_sound airport front (front_legal airport front back (subst (IsLegal airport) is legal))
 
 -- after a board was opened no entry is at risk
-pub opened_safe : {K : Type 0} (tells : K → KeeperState) (files : AirportFiles) (disk : DiskSeen) (board : BoardHeld K) → IsOpened tells files disk board
+pub opened_safe : {K : Type 0} (tells : K → KeeperState) (files : AirportFiles) (disk : DiskState) (board : BoardHeld K) → IsOpened tells files disk board
     → (machine_state tells board).at_risk ≡ None
 opened_safe tells files disk board opened = rw opened.at_risk refl
 
@@ -60,7 +62,7 @@ note_is opened history count (writer ∷ others) note many begun version writers
 
 -- desks and screens that were served at a hall of a board that was opened, with the disk that was
 -- closed after them
-abbrev pub desks_serve : {In Out K R E : Type 0} (service : Service In Out) (tells : K → KeeperState) (files : AirportFiles) (task : Task) (before after : ServeEnds In Out) (board : BoardHeld K)
+abbrev pub desks_serve : {In Out K R E : Type 0} (service : Service In Out) (tells : K → KeeperState) (files : AirportFiles) (task : Task) (before after : ServeWorld In Out) (board : BoardHeld K)
     (hall : HallHeld K R) (met : Result ShownEnd E) (ends : ShownEnd) (served : ServeEnd)
     → IsOpened tells files before.disk board
     → met ≡ Ok ends
@@ -72,8 +74,9 @@ abbrev pub desks_serve : {In Out K R E : Type 0} (service : Service In Out) (tel
     → served ≡ served_end (end_of (ends.desks ∷ ends.screens ∷ [])) (has_missed after.note)
     → after.disk.faults ≡ (tells hall.board.board.keeper).faults
     → KeepsHistory (record { airport = hall.board.board.airport; digests = files.digests }) hall.board.board.history (read_entry_at_risk hall.board.board.airport (tells hall.board.board.keeper)) after.disk
+    → Survives files.digests hall.board.board.history (read_entry_at_risk hall.board.board.airport (tells hall.board.board.keeper)) before.disk after.disk
     → ServesDesks service files task before after served
-desks_serve {E = E} service tells files task before after board hall met ends served opened is serve show many begun noted end_is counted keeps =
+desks_serve {E = E} service tells files task before after board hall met ends served opened is serve show many begun noted end_is counted keeps survives =
     let left = hall.board.board in
     let serves : ServesBoard service.states (fed_sessions service.feeds) task.connections (record { listeners = before.listeners; board = machine_state tells board }) (record { listeners = after.listeners; board = machine_state tells left }) ends.desks =
     subst (λ (r : Result ShownEnd E).
@@ -99,20 +102,21 @@ desks_serve {E = E} service tells files task before after board hall met ends se
       faults = counted;
       keeps = subst (λ (a : AirportParts).
           KeepsHistory (record { airport = a; digests = files.digests }) left.history (read_entry_at_risk left.airport (tells left.keeper)) after.disk) same keeps;
+      survives = survives;
       sound = all_sound files.airport left.history legal;
       drafts = λ desk number version. drafts_made files.airport left.history desk number version legal;
       visits = λ version added. visits_added files.airport left.history version added legal;
     }
 
--- there is no memory to serve at a board that was opened, and the disk reads as before
-pub turns_want_memory : {In Out K : Type 0} (tells : K → KeeperState) (files : AirportFiles) (before after : ServeEnds In Out) (board : BoardHeld K)
+-- there is no memory to serve at a board that was opened, and nothing was written
+pub turns_want_memory : {In Out K : Type 0} (tells : K → KeeperState) (files : AirportFiles) (before after : ServeWorld In Out) (board : BoardHeld K)
     → IsOpened tells files before.disk board → after.listeners ≡ before.listeners → after.screens ≡ before.screens → after.note ≡ before.note
-    → after.disk.contents ≡ before.disk.contents
-    → after.disk.faults ≡ (tells board.keeper).faults → ServeFindsNoJournal files before after (Entries entries.Memory)
-turns_want_memory tells files before after board opened listeners screens note reads counted =
+    → Stays before.disk after.disk → after.disk.faults ≡ (tells board.keeper).faults
+    → Unserved (λ old new. NotOpened files old new (Entries entries.Memory)) before after
+turns_want_memory tells files before after board opened listeners screens note stays counted =
     let opens = opened.opens in record {
       listeners = listeners;
       screens = screens;
-      disk = record { reads = reads; cause = (entry_texts board.history, record { opening = opens.entries; counts = counted ∙ opened.faults }, tt) };
+      uses = record { stays = stays; cause = (entry_texts board.history, record { opening = opens.entries; counts = counted ∙ opened.faults }, tt) };
       note = note;
     }

@@ -1,3 +1,4 @@
+pub mod Forms
 pub mod Crosses
 pub mod Desks
 pub mod Finished

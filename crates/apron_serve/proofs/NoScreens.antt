@@ -15,32 +15,32 @@ use Rattle.apron_serve.specs.Board.{IsNoteOf, MeetsDesks, Service, has_missed}
 use Rattle.apron_serve.specs.Files.{ServesFound, ServesTask, task_at}
 use Rattle.apron_serve.specs.Orders.{Order, may_have, order_of, order_of_words, order_with}
 use Rattle.apron_serve.specs.Serve.{CarriesOut, ServesAs, is_screen_order}
-use Rattle.apron_serve.specs.World.{ServeOuts, ServeWorld, serve_ends, serve_outs}
+use Rattle.apron_serve.specs.World.{ServeWorld}
 use Rattle.apron_serve.specs.declared.board.ServeEnd.{ServeEnd}
 
 module _ {In Out : Type 0} (service : Service In Out) where
-  met_as_many : (files : AirportFiles) (task : Task) (before after : ServeOuts In Out) (met : Result ServeEnd Unusable)
-      → MeetsDesks service files task (serve_ends before) (serve_ends after) met → length after.screens ≡ length before.screens
+  met_as_many : (files : AirportFiles) (task : Task) (before after : ServeWorld In Out) (met : Result ServeEnd Unusable)
+      → MeetsDesks service files task before after met → length after.screens ≡ length before.screens
   met_as_many files task before after (Ok end) desks =
       let shows = desks.shows.shows in
       (ap length shows.ended ∙ length-map shows.workers (λ (worker : ScreenWorker In Out). worker.after.listener))
       ∙ sym (ap length shows.begun ∙ length-map shows.workers (λ (worker : ScreenWorker In Out). worker.before.listener))
   met_as_many files task before after (Err why) finds = ap length finds.screens
 
-  task_as_many : (files : AirportFiles) (task : Option Task) (before after : ServeOuts In Out) (told : Status)
+  task_as_many : (files : AirportFiles) (task : Option Task) (before after : ServeWorld In Out) (told : Status)
       → ServesTask service files task before after told → length after.screens ≡ length before.screens
   task_as_many files (Some task) before after told serves = met_as_many files task before after serves.met serves.meets
-  task_as_many files None before after told tells = ap length tells.screens
+  task_as_many files None before after told (unserved, tells) = ap length unserved.screens
 
-  found_as_many : (order : Order) (found : Result AirportFiles FilesFault) (before after : ServeOuts In Out) (told : Status)
+  found_as_many : (order : Order) (found : Result AirportFiles FilesFault) (before after : ServeWorld In Out) (told : Status)
       → ServesFound service order found before after told → length after.screens ≡ length before.screens
   found_as_many order (Ok files) before after told serves = task_as_many files (task_at files order) before after told serves
-  found_as_many order (Err fault) before after told tells = ap length tells.screens
+  found_as_many order (Err fault) before after told (unserved, tells) = ap length unserved.screens
 
   does_as_many : (asked : Option Order) (before after : ServeWorld In Out) (told : Status) → CarriesOut service asked before after told
       → length after.screens ≡ length before.screens
-  does_as_many None before after told does = ap (λ (world : ServeWorld In Out). length world.screens) does.0
-  does_as_many (Some order) before after told does = found_as_many order does.found (serve_outs before) (serve_outs after) told does.serves
+  does_as_many None before after told (shelf, (unserved, tells)) = ap length unserved.screens
+  does_as_many (Some order) before after told does = found_as_many order does.found before after told does.serves
 
   -- there are as many screens after serving as before
   pub as_many : (asked : Option Order) (before after : ServeWorld In Out) (code : ℕ) → ServesAs service asked before after code
@@ -51,27 +51,27 @@ module _ {In Out : Type 0} (service : Service In Out) where
   none_in opened history writers None is zero = refl
   none_in opened history writers (Some note) is zero = absurd (let some = is.3 in omega (arith, some, zero))
 
-  met_unnoted : (files : AirportFiles) (task : Task) (before after : ServeOuts In Out) (met : Result ServeEnd Unusable)
-      → MeetsDesks service files task (serve_ends before) (serve_ends after) met → length before.screens ≡ 0 → before.note ≡ None → after.note ≡ None
+  met_unnoted : (files : AirportFiles) (task : Task) (before after : ServeWorld In Out) (met : Result ServeEnd Unusable)
+      → MeetsDesks service files task before after met → length before.screens ≡ 0 → before.note ≡ None → after.note ≡ None
   met_unnoted files task before after (Ok end) desks zero none =
       none_in desks.opened desks.board.history (length before.screens) after.note desks.note zero
   met_unnoted files task before after (Err why) finds zero none = finds.note ∙ none
 
-  task_unnoted : (files : AirportFiles) (task : Option Task) (before after : ServeOuts In Out) (told : Status)
+  task_unnoted : (files : AirportFiles) (task : Option Task) (before after : ServeWorld In Out) (told : Status)
       → ServesTask service files task before after told → length before.screens ≡ 0 → before.note ≡ None → after.note ≡ None
   task_unnoted files (Some task) before after told serves zero none = met_unnoted files task before after serves.met serves.meets zero none
-  task_unnoted files None before after told tells zero none = tells.note ∙ none
+  task_unnoted files None before after told (unserved, tells) zero none = unserved.note ∙ none
 
-  found_unnoted : (order : Order) (found : Result AirportFiles FilesFault) (before after : ServeOuts In Out) (told : Status)
+  found_unnoted : (order : Order) (found : Result AirportFiles FilesFault) (before after : ServeWorld In Out) (told : Status)
       → ServesFound service order found before after told → length before.screens ≡ 0 → before.note ≡ None → after.note ≡ None
   found_unnoted order (Ok files) before after told serves zero none = task_unnoted files (task_at files order) before after told serves zero none
-  found_unnoted order (Err fault) before after told tells zero none = tells.note ∙ none
+  found_unnoted order (Err fault) before after told (unserved, tells) zero none = unserved.note ∙ none
 
   does_unnoted : (asked : Option Order) (before after : ServeWorld In Out) (told : Status) → CarriesOut service asked before after told
       → length before.screens ≡ 0 → before.note ≡ None → after.note ≡ None
-  does_unnoted None before after told does zero none = ap (λ (world : ServeWorld In Out). world.note) does.0 ∙ none
+  does_unnoted None before after told (shelf, (unserved, tells)) zero none = unserved.note ∙ none
   does_unnoted (Some order) before after told does zero none =
-      found_unnoted order does.found (serve_outs before) (serve_outs after) told does.serves zero none
+      found_unnoted order does.found before after told does.serves zero none
 
   -- without screens no hall noted anything
   pub unnoted : (asked : Option Order) (before after : ServeWorld In Out) (code : ℕ) → ServesAs service asked before after code

@@ -16,10 +16,11 @@ use Rattle.screen_server.specs.declared.shown.Task.{Task}
 use Rattle.apron_check.specs.declared.files.AirportFiles.{AirportFiles}
 use Rattle.apron_run.specs.Headline.{AllSound, HasItsEntry, IsOfItsEntry}
 use Rattle.apron_run.specs.Journal.{KeepsHistory, NotOpened, OpensTo}
+use Rattle.apron_run.specs.Survival.{Survives}
 use Rattle.apron_run.specs.declared.unusable.Unusable.{Unusable}
 use Rattle.apron_serve.specs.declared.board.ServeEnd.{ServeEnd}
 use Rattle.apron_serve.specs.declared.board.ServeEnd.TheVariants.{Done, ListenerFault, Missed}
-use Rattle.apron_serve.specs.World.{ServeEnds}
+use Rattle.apron_serve.specs.World.{ServeWorld, Unserved}
 
 -- a board that was opened with this history, after which no entry is at risk, over a disk that had
 -- failed this often
@@ -58,15 +59,6 @@ served_end work.ListenerFault missed = ListenerFault
 served_end work.Done true = Missed
 served_end work.Done false = Done
 
--- there is no journal to work on, or no memory for the turns at it: no listener was called, and the
--- disk reads as before
-pub record ServeFindsNoJournal {In Out : Type 0} (files : AirportFiles)
-    (before after : ServeEnds In Out) (why : Unusable) : Type 0 where
-  pub listeners : after.listeners ≡ before.listeners
-  pub screens : after.screens ≡ before.screens
-  pub disk : NotOpened files before.disk after.disk why
-  pub note : after.note ≡ before.note
-
 module _ {In Out : Type 0} (service : Service In Out) (files : AirportFiles) (task : Task) where
   -- The headline for many desks. The journal of the files opened to a legal history. Each
   -- listener's connections were served one after the other by a worker of its own, whose port had
@@ -80,14 +72,14 @@ module _ {In Out : Type 0} (service : Service In Out) (files : AirportFiles) (ta
   -- is of the entry that added it. The disk at the end is the journal of the same files with the
   -- history; or, if it has failed, with the history and perhaps one more entry, with which it is
   -- still legal. This is the entry of a request on a connection of one of the workers, which got
-  -- the answer that it could not be kept, and no entry was added after it. Beside the desks each
-  -- screen's connections were shown its sheets, one look each. A screen had seen the chart of the
-  -- opened plan, and its sheets are charts of the day of plans that fronts of the history make,
-  -- whose versions never fall. The hall of these screens began with the opened history, had a writer
-  -- for each, and noted whether one of them does not show the last version. Serving ended as the
-  -- first worker in order that stopped early, those of the desks before those of the screens. If
-  -- none did, it ended as that note says.
-  pub record ServesDesks (before after : ServeEnds In Out) (end : ServeEnd) : Type 0 where
+  -- the answer that it could not be kept, and no entry was added after it. This history survives a
+  -- crash. Beside the desks each screen's connections were shown its sheets, one look each. A
+  -- screen had seen the chart of the opened plan, and its sheets are charts of the day of plans
+  -- that fronts of the history make, whose versions never fall. The hall of these screens began
+  -- with the opened history, had a writer for each, and noted whether one of them does not show the
+  -- last version. Serving ended as the first worker in order that stopped early, those of the desks
+  -- before those of the screens. If none did, it ended as that note says.
+  pub record ServesDesks (before after : ServeWorld In Out) (end : ServeEnd) : Type 0 where
     pub opened : List Entry
     pub opens : OpensTo files before.disk opened
     pub board : MachineState Entry AirportParts
@@ -106,13 +98,16 @@ module _ {In Out : Type 0} (service : Service In Out) (files : AirportFiles) (ta
     pub end_is : end ≡ served_end (end_of (desks ∷ looks ∷ [])) (has_missed after.note)
     pub faults : after.disk.faults ≡ board.faults
     pub keeps : KeepsHistory files board.history board.at_risk after.disk
+    pub survives : Survives files.digests board.history board.at_risk before.disk after.disk
     pub sound : AllSound files.airport board.history
     pub drafts : (desk : List ℕ) (number version : ℕ)
         → HasItsEntry files.airport board.history desk number version
     pub visits : (version : ℕ) (added : NewVisit)
         → IsOfItsEntry files.airport board.history version added
 
-  -- desks served at the journal of these files, or why there is none to work on
-  abbrev pub MeetsDesks : ServeEnds In Out → ServeEnds In Out → Result ServeEnd Unusable → Type 0
+  -- desks served at the journal of these files; or why there is none to work on, or no memory for
+  -- the turns at it, and nothing was written on the disk
+  abbrev pub MeetsDesks : ServeWorld In Out → ServeWorld In Out → Result ServeEnd Unusable → Type 0
   MeetsDesks before after (Ok end) = ServesDesks before after end
-  MeetsDesks before after (Err why) = ServeFindsNoJournal files before after why
+  MeetsDesks before after (Err why) =
+      Unserved (λ old new. NotOpened files old new why) before after

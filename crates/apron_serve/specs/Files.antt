@@ -7,9 +7,9 @@ use Rattle.apron_check.specs.declared.files.AirportFiles.{AirportFiles}
 use Rattle.apron_check.specs.declared.faults.FilesFault.{FilesFault}
 use Rattle.history_core.specs.declared.opening.OpenFault.TheVariants as entries
 use Rattle.screen_server.specs.declared.shown.Task.{Task}
-use Rattle.apron_run.specs.Check.{TellsFault}
-use Rattle.apron_run.specs.Print.{Writes, usage_text}
-use Rattle.apron_run.specs.Unusable.{TellsUnusable}
+use Rattle.apron_run.specs.End.{End, TellsEnd, faulty, unasked, unusable}
+use Rattle.apron_run.specs.Print.{Writes}
+use Rattle.apron_run.specs.World.{Unwritten}
 use Rattle.apron_run.specs.declared.status.Status.{Status}
 use Rattle.apron_run.specs.declared.status.Status.TheVariants as status
 use Rattle.apron_run.specs.declared.unusable.Unusable.{Unusable}
@@ -18,7 +18,7 @@ use Rattle.apron_serve.specs.declared.board.ServeEnd.{ServeEnd}
 use Rattle.apron_serve.specs.declared.board.ServeEnd.TheVariants.{Done, ListenerFault, Missed}
 use Rattle.apron_serve.specs.Board.{MeetsDesks, Service}
 use Rattle.apron_serve.specs.Orders.{Order, day_shown}
-use Rattle.apron_serve.specs.World.{ServeOuts, ServeWorld, serve_ends, serve_outs}
+use Rattle.apron_serve.specs.World.{ServeWorld, Unserved}
 
 -- the line that tells that a listener failed
 unfoldable pub listener_line : List ℕ
@@ -34,27 +34,8 @@ abbrev pub PrintsServeEnd : Result ServeEnd Unusable → SinkState → SinkState
 PrintsServeEnd (Ok Done) before after told = (after ≡ before) × (told ≡ status.Done)
 PrintsServeEnd (Ok ListenerFault) before after told =
     Writes listener_line status.ListenerFault status.ListenerFault before after told
-PrintsServeEnd (Ok Missed) before after told = TellsUnusable no_memory before after told
-PrintsServeEnd (Err why) before after told = TellsUnusable why before after told
-
--- the line of a fault of the files was written, and the listeners and the disk are as they were
-pub record TellsFiles {In Out : Type 0} (fault : FilesFault) (before after : ServeOuts In Out)
-    (told : Status) : Type 0 where
-  pub listeners : after.listeners ≡ before.listeners
-  pub screens : after.screens ≡ before.screens
-  pub disk : after.disk ≡ before.disk
-  pub note : after.note ≡ before.note
-  pub tells : TellsFault fault before.sink after.sink told
-
--- the plan has no such day: the line for faulty words was written, and the listeners and the disk
--- are as they were
-pub record TellsNoDay {In Out : Type 0} (before after : ServeOuts In Out)
-    (told : Status) : Type 0 where
-  pub listeners : after.listeners ≡ before.listeners
-  pub screens : after.screens ≡ before.screens
-  pub disk : after.disk ≡ before.disk
-  pub note : after.note ≡ before.note
-  pub tells : Writes usage_text status.Usage status.Usage before.sink after.sink told
+PrintsServeEnd (Ok Missed) before after told = TellsEnd (unusable no_memory) before after told
+PrintsServeEnd (Err why) before after told = TellsEnd (unusable why) before after told
 
 -- what is to be done at an airport, if its plan has the day that is ordered
 abbrev pub task_at : AirportFiles → Order → Option Task
@@ -62,31 +43,37 @@ task_at files order =
     option_map (λ day. record { connections = order.connections; day = day })
     (day_shown files.airport order.day)
 
+-- nobody was served and nothing was written on the disk, as the line of this end tells
+abbrev pub Refuses : {In Out : Type 0} → End → ServeWorld In Out → ServeWorld In Out → Status
+    → Type 0
+Refuses end before after told = Unserved Unwritten before after
+    × TellsEnd end before.sink after.sink told
+
 module _ {In Out : Type 0} (service : Service In Out) where
   -- desks and screens served at the journal of these files, or none, and what is printed about
   -- either
-  pub record ServesJournal (files : AirportFiles) (task : Task) (before after : ServeOuts In Out)
+  pub record ServesJournal (files : AirportFiles) (task : Task) (before after : ServeWorld In Out)
       (told : Status) : Type 0 where
     pub met : Result ServeEnd Unusable
-    pub meets : MeetsDesks service files task (serve_ends before) (serve_ends after) met
+    pub meets : MeetsDesks service files task before after met
     pub tells : PrintsServeEnd met before.sink after.sink told
 
-  -- the same, or there is no such day
-  abbrev pub ServesTask : AirportFiles → Option Task → ServeOuts In Out → ServeOuts In Out → Status
-      → Type 0
+  -- the same; or there is no such day
+  abbrev pub ServesTask : AirportFiles → Option Task → ServeWorld In Out → ServeWorld In Out
+      → Status → Type 0
   ServesTask files (Some task) before after told = ServesJournal files task before after told
-  ServesTask files None before after told = TellsNoDay before after told
+  ServesTask files None before after told = Refuses unasked before after told
 
   -- what is done with what was found in the two files
-  abbrev pub ServesFound : Order → Result AirportFiles FilesFault → ServeOuts In Out
-      → ServeOuts In Out → Status → Type 0
+  abbrev pub ServesFound : Order → Result AirportFiles FilesFault → ServeWorld In Out
+      → ServeWorld In Out → Status → Type 0
   ServesFound order (Ok files) before after told =
       ServesTask files (task_at files order) before after told
-  ServesFound order (Err fault) before after told = TellsFiles fault before after told
+  ServesFound order (Err fault) before after told = Refuses (faulty fault) before after told
 
   -- the two files of the order were read, and this was done with what was found in them
   pub record ServesFiles (order : Order) (before after : ServeWorld In Out)
       (told : Status) : Type 0 where
     pub found : Result AirportFiles FilesFault
     pub finds : FindsFiles before.shelf after.shelf order.airport order.types found
-    pub serves : ServesFound order found (serve_outs before) (serve_outs after) told
+    pub serves : ServesFound order found before after told

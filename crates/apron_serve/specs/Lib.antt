@@ -5,4 +5,3 @@ pub mod Board
 pub mod Files
 pub mod Serve
 pub mod Complete
-pub mod Crash

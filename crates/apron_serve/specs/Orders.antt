@@ -1,9 +1,8 @@
 -- What the words `serve A T N` and `serve A T N screen DAY` order.
 use Rattle.std.specs.Prelude.{ℕ, Bool, nat_le, ◌==◌, ◌&&◌, Option, Some, None, List, [], ◌∷◌, codes, if◌then◌else◌}
 use Rattle.std.specs.Str.{bytes_eq}
-use Rattle.apron_base.specs.Digits.{most_digits, number_of}
 use Rattle.apron_rules.specs.declared.parts.AirportParts.{AirportParts}
-use Rattle.apron_run.specs.Words.{is_plain_number, number_within}
+use Rattle.apron_run.specs.Words.{Form, asked_by, is_file, is_number, is_plain_number, number_within, value_of}
 
 -- how many connections a listener takes at most
 abbrev pub most_connections : ℕ
@@ -25,30 +24,26 @@ pub record Order : Type 0 where
   pub connections : ℕ
   pub day : Option (List ℕ)
 
--- the order of this number of connections, 1 to 1,000,000
-abbrev pub order_if_counted : List ℕ → List ℕ → Option (List ℕ) → Option ℕ → Option Order
-order_if_counted airport types day None = None
-order_if_counted airport types day (Some connections) =
-    if nat_le 1 connections && nat_le connections most_connections
-    then Some (record { airport = airport; types = types; connections = connections; day = day })
-    else None
+-- the forms of what is ordered: desks alone, and desks with screens that show a day
+abbrev pub order_forms : List (Form Order)
+order_forms = (
+  codes "serve",
+  is_file ∷ is_file ∷ is_number 1 most_connections ∷ [],
+  λ airport types number.
+      record { airport = airport; types = types; connections = value_of number; day = None },
+)
+    ∷ (
+      codes "serve",
+      is_file ∷ is_file ∷ is_number 1 most_connections
+          ∷ (λ given. bytes_eq given (codes "screen")) ∷ is_plain_number ∷ [],
+      λ airport types number screen day.
+          record { airport = airport; types = types; connections = value_of number; day = Some day },
+    )
+    ∷ []
 
--- what a word orders that has the names of two files and then digits after it
-abbrev pub ordered_by : List ℕ → List ℕ → List ℕ → List ℕ → Option (List ℕ) → Option Order
-ordered_by word airport types number day =
-    if bytes_eq word (codes "serve") && is_plain_number number
-    then order_if_counted airport types day (number_of number most_digits)
-    else None
-
--- what the words order: `serve` with the names of two files and a number, and perhaps `screen` and
--- a number
-abbrev pub order_of_words : List (List ℕ) → Option Order
-order_of_words (word ∷ airport ∷ types ∷ number ∷ []) = ordered_by word airport types number None
-order_of_words (word ∷ airport ∷ types ∷ number ∷ screen ∷ day ∷ []) =
-    if bytes_eq screen (codes "screen") && is_plain_number day
-    then ordered_by word airport types number (Some day)
-    else None
-order_of_words words = None
+-- what the words order: what the first form that they fit says
+unfoldable pub order_of_words : List (List ℕ) → Option Order
+order_of_words words = asked_by order_forms words
 
 -- there may be this many screens: none if no day is shown, and otherwise 1 to 8
 abbrev pub may_have : ℕ → Option (List ℕ) → Bool

@@ -3,12 +3,12 @@ use Rattle.std.specs.Prelude.{◌≡◌, ◌⊎◌, ◌+◌, ◌≤◌, ◌==◌
 use Rattle.apron_base.specs.Counts.{Counts, Rose}
 use Rattle.apron_base.specs.Listener.{ListenerState}
 use Rattle.apron_run.specs.Desk.{ServedCounts}
-use Rattle.apron_run.specs.Print.{Writes, usage_text}
+use Rattle.apron_run.specs.End.{unasked}
 use Rattle.apron_run.specs.Statuses.{exit_code, is_shelf_status}
 use Rattle.apron_run.specs.declared.status.Status.{Status}
 use Rattle.apron_run.specs.declared.status.Status.TheVariants.{Done, Usage, FileFault, ShelfFault, DiskFault, JournalFault, ListenerFault, Memory}
 use Rattle.apron_serve.specs.Board.{Service}
-use Rattle.apron_serve.specs.Files.{ServesFiles}
+use Rattle.apron_serve.specs.Files.{Refuses, ServesFiles}
 use Rattle.apron_serve.specs.Orders.{Order}
 use Rattle.apron_serve.specs.World.{ServeWorld}
 
@@ -36,11 +36,6 @@ abbrev pub serve_ends_before_journal : ℕ → Bool
 serve_ends_before_journal code =
     code == exit_code Usage || code == exit_code FileFault || code == exit_code ShelfFault
 
--- there is an order
-abbrev pub is_order : Option Order → Bool
-is_order None = false
-is_order (Some order) = true
-
 -- there is an order, of screens
 abbrev pub is_screen_order : Option Order → Bool
 is_screen_order None = false
@@ -66,13 +61,13 @@ module _ {In Out : Type 0} (service : Service In Out) where
   -- what is done if there is an order; if there is none the line `usage` is written, and nothing
   -- else is touched
   abbrev pub CarriesOut : Option Order → ServeWorld In Out → ServeWorld In Out → Status → Type 0
-  CarriesOut None before after status = (after ≡ record before { sink = after.sink })
-      × Writes usage_text Usage Usage before.sink after.sink status
+  CarriesOut None before after status = (after.shelf ≡ before.shelf)
+      × Refuses unasked before after status
   CarriesOut (Some order) before after status = ServesFiles service order before after status
 
-  -- What `serve` does for an order, and the status of its number. The shelf fails only if the
-  -- status says so, the sink only at the line that reports a status, and the disk if the status
-  -- says so or desks were served.
+  -- What `serve` does for an order, what a crash meanwhile or after it may leave, and the status of
+  -- its number. The shelf fails only if the status says so, the sink only at the line that reports
+  -- a status, and the disk if the status says so or desks were served.
   pub record ServesAs (order : Option Order) (before after : ServeWorld In Out)
       (code : ℕ) : Type 0 where
     pub status : Status

@@ -1,13 +1,13 @@
 // Desks and screens at the board of an airport over its journal on a disk.
 ghost use Rattle.std.specs.Prelude.{◌≡◌, ◌<◌, ◌≤◌, [], ◌∷◌, None, OnErr, length, map};
+ghost use Rattle.apron_base.specs.Ends.{SinkState};
+ghost use Rattle.apron_base.specs.Shelf.{ShelfState};
 ghost use Rattle.desk_workers.specs.Crew.{end_of};
 ghost use Rattle.desk_workers.specs.Watched.{feed_texts};
-ghost use Rattle.journal_disk.specs.Disk.{Stays};
-ghost use Rattle.apron_run.specs.World.{disk_seen};
+ghost use Rattle.apron_run.specs.World.{Unwritten};
 ghost use Rattle.apron_serve.specs.Board.{MeetsDesks, has_missed, served_end};
-ghost use Rattle.apron_serve.specs.Crash.{LeavesOfService};
 ghost use Rattle.apron_serve.specs.Orders.{most_listeners};
-ghost use Rattle.apron_serve.specs.World.{serve_ends_at};
+ghost use Rattle.apron_serve.specs.World.{serve_world_at};
 
 use apron_base::Memory;
 use apron_check::AirportFiles;
@@ -37,7 +37,7 @@ pub(crate) enum ServeEnd {
 /// desks at its board, and those of the listeners of screens beside them. It gives the disk back,
 /// and what the hall of the screens noted, if there are any. `Err` says why there is no journal to
 /// work on, or that there is no memory for the screens or the turns at it; then no listener was
-/// called, and the disk reads as before.
+/// called, and nothing was written on the disk.
 pub(crate) fn serve_desks<
     'a,
     N: OfFiles + Send,
@@ -57,32 +57,15 @@ pub(crate) fn serve_desks<
     disk: D,
 ) -> (Result<ServeEnd, Unusable>, D, Option<HallNote>)
     requires digests { files.now.digests ≡ N.digests }
-    requires begun { Stays N.begun (D.state disk) }
+    requires begun { Unwritten N.begun (D.state disk) }
     requires few { length listeners.old ≤ most_listeners }
     requires day { 0 < length screens.old → (1 ≤ task.day) × (task.day ≤ files.now.airport.days) }
-    ensures meets { MeetsDesks
+    ensures meets { (shelf read : ShelfState) (sink wrote : SinkState) → MeetsDesks
         (record { states = L.states; feeds = feed_texts R.tells watches.now }) files.now task
-        (record {
-          listeners = map L.state listeners.old;
-          screens = map L.state screens.old;
-          disk = disk_seen (D.state disk);
-          note = None;
-        })
-        (record {
-          listeners = map L.state listeners.new;
-          screens = map L.state screens.new;
-          disk = disk_seen (D.state result.1);
-          note = result.2;
-        }) result.0 }
-    ensures crash { let before = serve_ends_at (map L.state listeners.old)
-        (map L.state screens.old) (D.state disk) None in
-        let after = serve_ends_at (map L.state listeners.new)
-        (map L.state screens.new) (D.state result.1) result.2 in
-        (meets : MeetsDesks (record { states = L.states; feeds = feed_texts R.tells watches.now })
-        files.now task before after result.0)
-        × LeavesOfService (record { states = L.states; feeds = feed_texts R.tells watches.now })
-        (record { before = N.begun; after = D.state result.1 }) files.now task before
-        after result.0 meets }
+        (serve_world_at shelf (map L.state listeners.old) (map L.state screens.old)
+        sink N.begun None)
+        (serve_world_at read (map L.state listeners.new) (map L.state screens.new)
+        wrote (D.state result.1) result.2) result.0 }
     ensures unserved { OnErr result.0 (listeners.new ≡ listeners.old) }
     ensures unshown { OnErr result.0 (screens.new ≡ screens.old) }
 {

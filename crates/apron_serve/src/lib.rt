@@ -8,4 +8,6 @@ mod program;
 mod words;
 
 pub use program::{serve, serve_all, serve_with};
-pub use words::{MAX_CONNECTIONS, MAX_LISTENERS, MAX_SCREENS, limits_are_as_defined};
+pub use words::{
+    MAX_CONNECTIONS, MAX_LISTENERS, MAX_SCREENS, connections_of, limits_are_as_defined,
+};

@@ -1,18 +1,17 @@
 // The calls of the words `serve A T N` and `serve A T N screen DAY`.
-ghost use Rattle.std.specs.Prelude.{◌≡◌, ◌↔◌, ◌⊎◌, ◌<◌, ◌≤◌, true, false, [], None, Ok, Option, Some, length, map, not};
+ghost use Rattle.std.specs.Prelude.{◌≡◌, ◌↔◌, ◌⊎◌, ◌<◌, ◌≤◌, true, false, None, Ok, Option, Some, is_some, length, map, not};
+ghost use Rattle.apron_base.specs.Shelf.{ShelfState};
 ghost use Rattle.desk_workers.specs.Watched.{feed_texts, no_feeds};
 ghost use Rattle.apron_run.specs.Run.{KeptUnless};
 ghost use Rattle.apron_run.specs.Statuses.{exit_code};
-ghost use Rattle.apron_run.specs.World.{disk_seen};
 ghost use Rattle.shown_board.specs.Halls.{HallNoteState};
 ghost use Rattle.apron_serve.specs.Board.{has_missed};
 ghost use Rattle.apron_serve.specs.Complete.{IsServeComplete};
-ghost use Rattle.apron_serve.specs.Crash.{LeavesFound, LeavesOfService, LeavesTask, ServeCrashesAs};
 ghost use Rattle.apron_serve.specs.Files.{PrintsServeEnd, ServesFiles, ServesJournal, ServesTask, listener_line, task_at};
 ghost use Rattle.apron_serve.specs.Orders.{Order as Ordered, may_have, most_listeners, order_of};
 ghost use Rattle.apron_serve.specs.OrdersShown.{order_shown};
-ghost use Rattle.apron_serve.specs.Serve.{HaveFinished, ServesAs, SomeFailed, has_served, is_order, is_screen_order, serve_ends_before_journal};
-ghost use Rattle.apron_serve.specs.World.{serve_ends, serve_outs, serve_outs_at, serve_world_at};
+ghost use Rattle.apron_serve.specs.Serve.{HaveFinished, ServesAs, SomeFailed, has_served, is_screen_order, serve_ends_before_journal};
+ghost use Rattle.apron_serve.specs.World.{desks_world_at, serve_world_at};
 
 use crate::board::{ServeEnd, serve_desks};
 use crate::words::{Order, order_of};
@@ -60,22 +59,10 @@ pub fn serve<F: Shelf, L: Wall + Send, W: Sink, D: Disk + Send, Rt: Wait + Threa
 ) -> (u8, D)
     ensures headline { ServesAs (record { states = L.states; feeds = no_feeds })
         (order_of words.now (length listeners.old) 0)
-        (record {
-          shelf = F.state shelf.old;
-          listeners = map L.state listeners.old;
-          screens = [];
-          sink = W.state sink.old;
-          disk = disk_seen (D.state disk);
-          note = None;
-        })
-        (record {
-          shelf = F.state shelf.new;
-          listeners = map L.state listeners.new;
-          screens = [];
-          sink = W.state sink.new;
-          disk = disk_seen (D.state result.1);
-          note = None;
-        }) result.0 }
+        (desks_world_at (F.state shelf.old) (map L.state listeners.old)
+        (W.state sink.old) (D.state disk))
+        (desks_world_at (F.state shelf.new) (map L.state listeners.new)
+        (W.state sink.new) (D.state result.1)) result.0 }
     ensures done { (order : Ordered)
         → order_of words.now (length listeners.old) 0 ≡ Some order
         → (result.0 ≡ exit_code Status.Done
@@ -86,30 +73,11 @@ pub fn serve<F: Shelf, L: Wall + Send, W: Sink, D: Disk + Send, Rt: Wait + Threa
     ensures usage { result.0 ≡ exit_code Status.Usage
         ↔ order_of words.now (length listeners.old) 0 ≡ None }
     ensures complete { IsServeComplete (order_of words.now (length listeners.old) 0)
-        (record {
-          shelf = F.state shelf.old;
-          listeners = map L.state listeners.old;
-          screens = [];
-          sink = W.state sink.old;
-          disk = disk_seen (D.state disk);
-          note = None;
-        })
-        (record {
-          shelf = F.state shelf.new;
-          listeners = map L.state listeners.new;
-          screens = [];
-          sink = W.state sink.new;
-          disk = disk_seen (D.state result.1);
-          note = None;
-        }) result.0 }
-    ensures crash { ServeCrashesAs (record { states = L.states; feeds = no_feeds })
-        (record { before = D.state disk; after = D.state result.1 })
-        (order_of words.now (length listeners.old) 0)
-        (serve_world_at (F.state shelf.old) (map L.state listeners.old) []
-        (W.state sink.old) (D.state disk) None)
-        (serve_world_at (F.state shelf.new) (map L.state listeners.new) []
-        (W.state sink.new) (D.state result.1) None) result.0 }
-    ensures shelf_kept { KeptUnless (is_order (order_of words.now (length listeners.old) 0))
+        (desks_world_at (F.state shelf.old) (map L.state listeners.old)
+        (W.state sink.old) (D.state disk))
+        (desks_world_at (F.state shelf.new) (map L.state listeners.new)
+        (W.state sink.new) (D.state result.1)) result.0 }
+    ensures shelf_kept { KeptUnless (is_some (order_of words.now (length listeners.old) 0))
         shelf.old shelf.new }
     ensures listeners_kept { KeptUnless (has_served 0 result.0) listeners.old listeners.new }
     ensures disk_kept { KeptUnless (not (serve_ends_before_journal result.0)) disk result.1 }
@@ -140,22 +108,10 @@ pub fn serve_with<
     ensures headline { ServesAs
         (record { states = L.states; feeds = feed_texts R.tells watches.now })
         (order_of words.now (length listeners.old) 0)
-        (record {
-          shelf = F.state shelf.old;
-          listeners = map L.state listeners.old;
-          screens = [];
-          sink = W.state sink.old;
-          disk = disk_seen (D.state disk);
-          note = None;
-        })
-        (record {
-          shelf = F.state shelf.new;
-          listeners = map L.state listeners.new;
-          screens = [];
-          sink = W.state sink.new;
-          disk = disk_seen (D.state result.1);
-          note = None;
-        }) result.0 }
+        (desks_world_at (F.state shelf.old) (map L.state listeners.old)
+        (W.state sink.old) (D.state disk))
+        (desks_world_at (F.state shelf.new) (map L.state listeners.new)
+        (W.state sink.new) (D.state result.1)) result.0 }
     ensures done { (order : Ordered)
         → order_of words.now (length listeners.old) 0 ≡ Some order
         → (result.0 ≡ exit_code Status.Done
@@ -166,31 +122,11 @@ pub fn serve_with<
     ensures usage { result.0 ≡ exit_code Status.Usage
         ↔ order_of words.now (length listeners.old) 0 ≡ None }
     ensures complete { IsServeComplete (order_of words.now (length listeners.old) 0)
-        (record {
-          shelf = F.state shelf.old;
-          listeners = map L.state listeners.old;
-          screens = [];
-          sink = W.state sink.old;
-          disk = disk_seen (D.state disk);
-          note = None;
-        })
-        (record {
-          shelf = F.state shelf.new;
-          listeners = map L.state listeners.new;
-          screens = [];
-          sink = W.state sink.new;
-          disk = disk_seen (D.state result.1);
-          note = None;
-        }) result.0 }
-    ensures crash { ServeCrashesAs
-        (record { states = L.states; feeds = feed_texts R.tells watches.now })
-        (record { before = D.state disk; after = D.state result.1 })
-        (order_of words.now (length listeners.old) 0)
-        (serve_world_at (F.state shelf.old) (map L.state listeners.old) []
-        (W.state sink.old) (D.state disk) None)
-        (serve_world_at (F.state shelf.new) (map L.state listeners.new) []
-        (W.state sink.new) (D.state result.1) None) result.0 }
-    ensures shelf_kept { KeptUnless (is_order (order_of words.now (length listeners.old) 0))
+        (desks_world_at (F.state shelf.old) (map L.state listeners.old)
+        (W.state sink.old) (D.state disk))
+        (desks_world_at (F.state shelf.new) (map L.state listeners.new)
+        (W.state sink.new) (D.state result.1)) result.0 }
+    ensures shelf_kept { KeptUnless (is_some (order_of words.now (length listeners.old) 0))
         shelf.old shelf.new }
     ensures listeners_kept { KeptUnless (has_served 0 result.0) listeners.old listeners.new }
     ensures disk_kept { KeptUnless (not (serve_ends_before_journal result.0)) disk result.1 }
@@ -238,22 +174,10 @@ pub fn serve_all<
     ensures headline { (note : Option HallNoteState) × ServesAs
         (record { states = L.states; feeds = feed_texts R.tells watches.now })
         (order_of words.now (length listeners.old) (length screens.old))
-        (record {
-          shelf = F.state shelf.old;
-          listeners = map L.state listeners.old;
-          screens = map L.state screens.old;
-          sink = W.state sink.old;
-          disk = disk_seen (D.state disk);
-          note = None;
-        })
-        (record {
-          shelf = F.state shelf.new;
-          listeners = map L.state listeners.new;
-          screens = map L.state screens.new;
-          sink = W.state sink.new;
-          disk = disk_seen (D.state result.1);
-          note = note;
-        }) result.0 }
+        (serve_world_at (F.state shelf.old) (map L.state listeners.old) (map L.state screens.old)
+        (W.state sink.old) (D.state disk) None)
+        (serve_world_at (F.state shelf.new) (map L.state listeners.new) (map L.state screens.new)
+        (W.state sink.new) (D.state result.1) note) result.0 }
     ensures done { (order : Ordered)
         → order_of words.now (length listeners.old) (length screens.old) ≡ Some order
         → result.0 ≡ exit_code Status.Done
@@ -276,32 +200,12 @@ pub fn serve_all<
         ≡ true) }
     ensures complete { (note : Option HallNoteState) × IsServeComplete
         (order_of words.now (length listeners.old) (length screens.old))
-        (record {
-          shelf = F.state shelf.old;
-          listeners = map L.state listeners.old;
-          screens = map L.state screens.old;
-          sink = W.state sink.old;
-          disk = disk_seen (D.state disk);
-          note = None;
-        })
-        (record {
-          shelf = F.state shelf.new;
-          listeners = map L.state listeners.new;
-          screens = map L.state screens.new;
-          sink = W.state sink.new;
-          disk = disk_seen (D.state result.1);
-          note = note;
-        }) result.0 }
-    ensures crash { (note : Option HallNoteState) × ServeCrashesAs
-        (record { states = L.states; feeds = feed_texts R.tells watches.now })
-        (record { before = D.state disk; after = D.state result.1 })
-        (order_of words.now (length listeners.old) (length screens.old))
         (serve_world_at (F.state shelf.old) (map L.state listeners.old) (map L.state screens.old)
         (W.state sink.old) (D.state disk) None)
         (serve_world_at (F.state shelf.new) (map L.state listeners.new) (map L.state screens.new)
         (W.state sink.new) (D.state result.1) note) result.0 }
     ensures shelf_kept { KeptUnless
-        (is_order (order_of words.now (length listeners.old) (length screens.old))) shelf.old
+        (is_some (order_of words.now (length listeners.old) (length screens.old))) shelf.old
         shelf.new }
     ensures listeners_kept { KeptUnless (has_served (length screens.old) result.0)
         listeners.old listeners.new }
@@ -338,22 +242,10 @@ fn serve_noted<
     ensures headline { ServesAs
         (record { states = L.states; feeds = feed_texts R.tells watches.now })
         (order_of words.now (length listeners.old) (length screens.old))
-        (record {
-          shelf = F.state shelf.old;
-          listeners = map L.state listeners.old;
-          screens = map L.state screens.old;
-          sink = W.state sink.old;
-          disk = disk_seen (D.state disk);
-          note = None;
-        })
-        (record {
-          shelf = F.state shelf.new;
-          listeners = map L.state listeners.new;
-          screens = map L.state screens.new;
-          sink = W.state sink.new;
-          disk = disk_seen (D.state result.1);
-          note = result.2;
-        }) result.0 }
+        (serve_world_at (F.state shelf.old) (map L.state listeners.old) (map L.state screens.old)
+        (W.state sink.old) (D.state disk) None)
+        (serve_world_at (F.state shelf.new) (map L.state listeners.new) (map L.state screens.new)
+        (W.state sink.new) (D.state result.1) result.2) result.0 }
     ensures done { (order : Ordered)
         → order_of words.now (length listeners.old) (length screens.old) ≡ Some order
         → result.0 ≡ exit_code Status.Done
@@ -377,32 +269,12 @@ fn serve_noted<
         ≡ true) }
     ensures complete { IsServeComplete
         (order_of words.now (length listeners.old) (length screens.old))
-        (record {
-          shelf = F.state shelf.old;
-          listeners = map L.state listeners.old;
-          screens = map L.state screens.old;
-          sink = W.state sink.old;
-          disk = disk_seen (D.state disk);
-          note = None;
-        })
-        (record {
-          shelf = F.state shelf.new;
-          listeners = map L.state listeners.new;
-          screens = map L.state screens.new;
-          sink = W.state sink.new;
-          disk = disk_seen (D.state result.1);
-          note = result.2;
-        }) result.0 }
-    ensures crash { ServeCrashesAs
-        (record { states = L.states; feeds = feed_texts R.tells watches.now })
-        (record { before = D.state disk; after = D.state result.1 })
-        (order_of words.now (length listeners.old) (length screens.old))
         (serve_world_at (F.state shelf.old) (map L.state listeners.old) (map L.state screens.old)
         (W.state sink.old) (D.state disk) None)
         (serve_world_at (F.state shelf.new) (map L.state listeners.new) (map L.state screens.new)
         (W.state sink.new) (D.state result.1) result.2) result.0 }
     ensures shelf_kept { KeptUnless
-        (is_order (order_of words.now (length listeners.old) (length screens.old))) shelf.old
+        (is_some (order_of words.now (length listeners.old) (length screens.old))) shelf.old
         shelf.new }
     ensures listeners_kept { KeptUnless (has_served (length screens.old) result.0)
         listeners.old listeners.new }
@@ -446,31 +318,10 @@ fn serve_files<
     ensures serves { ServesFiles
         (record { states = L.states; feeds = feed_texts R.tells watches.now })
         (order_shown order.now)
-        (record {
-          shelf = F.state shelf.old;
-          listeners = map L.state listeners.old;
-          screens = map L.state screens.old;
-          sink = W.state sink.old;
-          disk = disk_seen (D.state disk);
-          note = None;
-        })
-        (record {
-          shelf = F.state shelf.new;
-          listeners = map L.state listeners.new;
-          screens = map L.state screens.new;
-          sink = W.state sink.new;
-          disk = disk_seen (D.state result.1);
-          note = result.2;
-        }) result.0 }
-    ensures crash { let before = serve_world_at (F.state shelf.old) (map L.state listeners.old)
-        (map L.state screens.old) (W.state sink.old) (D.state disk) None in
-        let after = serve_world_at (F.state shelf.new) (map L.state listeners.new)
-        (map L.state screens.new) (W.state sink.new) (D.state result.1) result.2 in
-        (serves : ServesFiles (record { states = L.states; feeds = feed_texts R.tells watches.now })
-        (order_shown order.now) before after result.0)
-        × LeavesFound (record { states = L.states; feeds = feed_texts R.tells watches.now })
-        (record { before = D.state disk; after = D.state result.1 }) (order_shown order.now)
-        serves.found (serve_outs before) (serve_outs after) result.0 serves.serves }
+        (serve_world_at (F.state shelf.old) (map L.state listeners.old) (map L.state screens.old)
+        (W.state sink.old) (D.state disk) None)
+        (serve_world_at (F.state shelf.new) (map L.state listeners.new) (map L.state screens.new)
+        (W.state sink.new) (D.state result.1) result.2) result.0 }
     ensures listeners_kept { KeptUnless (has_served (length screens.old) (exit_code result.0))
         listeners.old listeners.new }
     ensures screens_kept { KeptUnless (has_served (length screens.old) (exit_code result.0))
@@ -507,32 +358,13 @@ fn serve_day<
 ) -> (Status, D, Option<HallNote>)
     requires few { length listeners.old ≤ most_listeners }
     requires screens { may_have (length screens.old) (order_shown order.now).day ≡ true }
-    ensures serves { ServesTask
+    ensures serves { (shelf read : ShelfState) → ServesTask
         (record { states = L.states; feeds = feed_texts R.tells watches.now }) files.now
         (task_at files.now (order_shown order.now))
-        (record {
-          listeners = map L.state listeners.old;
-          screens = map L.state screens.old;
-          sink = W.state sink.old;
-          disk = disk_seen (D.state disk);
-          note = None;
-        })
-        (record {
-          listeners = map L.state listeners.new;
-          screens = map L.state screens.new;
-          sink = W.state sink.new;
-          disk = disk_seen (D.state result.1);
-          note = result.2;
-        }) result.0 }
-    ensures crash { let before = serve_outs_at (map L.state listeners.old) (map L.state screens.old)
-        (W.state sink.old) (D.state disk) None in
-        let after = serve_outs_at (map L.state listeners.new) (map L.state screens.new)
-        (W.state sink.new) (D.state result.1) result.2 in
-        (serves : ServesTask (record { states = L.states; feeds = feed_texts R.tells watches.now })
-        files.now (task_at files.now (order_shown order.now)) before after result.0)
-        × LeavesTask (record { states = L.states; feeds = feed_texts R.tells watches.now })
-        (record { before = D.state disk; after = D.state result.1 }) files.now
-        (task_at files.now (order_shown order.now)) before after result.0 serves }
+        (serve_world_at shelf (map L.state listeners.old) (map L.state screens.old)
+        (W.state sink.old) (D.state disk) None)
+        (serve_world_at read (map L.state listeners.new) (map L.state screens.new)
+        (W.state sink.new) (D.state result.1) result.2) result.0 }
     ensures listeners_kept { KeptUnless (has_served (length screens.old) (exit_code result.0))
         listeners.old listeners.new }
     ensures screens_kept { KeptUnless (has_served (length screens.old) (exit_code result.0))
@@ -576,32 +408,12 @@ fn serve_journal<
 ) -> (Status, D, Option<HallNote>)
     requires few { length listeners.old ≤ most_listeners }
     requires day { 0 < length screens.old → (1 ≤ task.day) × (task.day ≤ files.now.airport.days) }
-    ensures serves { ServesJournal
+    ensures serves { (shelf read : ShelfState) → ServesJournal
         (record { states = L.states; feeds = feed_texts R.tells watches.now }) files.now task
-        (record {
-          listeners = map L.state listeners.old;
-          screens = map L.state screens.old;
-          sink = W.state sink.old;
-          disk = disk_seen (D.state disk);
-          note = None;
-        })
-        (record {
-          listeners = map L.state listeners.new;
-          screens = map L.state screens.new;
-          sink = W.state sink.new;
-          disk = disk_seen (D.state result.1);
-          note = result.2;
-        }) result.0 }
-    ensures crash { let before = serve_outs_at (map L.state listeners.old) (map L.state screens.old)
-        (W.state sink.old) (D.state disk) None in
-        let after = serve_outs_at (map L.state listeners.new) (map L.state screens.new)
-        (W.state sink.new) (D.state result.1) result.2 in
-        (serves : ServesJournal
-        (record { states = L.states; feeds = feed_texts R.tells watches.now }) files.now task
-        before after result.0)
-        × LeavesOfService (record { states = L.states; feeds = feed_texts R.tells watches.now })
-        (record { before = D.state disk; after = D.state result.1 }) files.now task
-        (serve_ends before) (serve_ends after) serves.met serves.meets }
+        (serve_world_at shelf (map L.state listeners.old) (map L.state screens.old)
+        (W.state sink.old) (D.state disk) None)
+        (serve_world_at read (map L.state listeners.new) (map L.state screens.new)
+        (W.state sink.new) (D.state result.1) result.2) result.0 }
     ensures listeners_kept { KeptUnless (has_served (length screens.old) (exit_code result.0))
         listeners.old listeners.new }
     ensures screens_kept { KeptUnless (has_served (length screens.old) (exit_code result.0))

@@ -1,13 +1,15 @@
 // What the words of the command line ask for.
-ghost use Rattle.std.specs.Prelude.{◌≡◌, ◌<◌, ◌≤◌, ℕ, true, IfSome};
+#![tactic(auto, unfolding(crate::specs::Orders::order_of_words))]
+
+ghost use Rattle.std.specs.Prelude.{◌≡◌, ◌<◌, ◌≤◌, ℕ, true, IfSome, [], ◌∷◌, is_some};
 ghost use Rattle.std.specs.Option.{option_copied, option_map};
 ghost use Rattle.apron_rules.specs.declared.parts.AirportParts.{AirportParts};
-ghost use Rattle.apron_run.specs.Words.{number_within};
-ghost use Rattle.apron_serve.specs.Orders.{most_connections, most_listeners, most_screens, day_shown, may_have, order_of, order_of_words, order_if_counted, ordered_by};
+ghost use Rattle.apron_run.specs.Words.{is_number, number_within, value_of};
+ghost use Rattle.apron_serve.specs.Orders.{most_connections, most_listeners, most_screens, day_shown, may_have, order_of, order_of_words};
 ghost use Rattle.apron_serve.specs.OrdersShown.{order_shown};
 
 use apron_base::{MAX_DIGITS, Word, number_of};
-use apron_run::is_plain_number;
+use apron_run::{is_plain_number, plain_number};
 
 /// The most connections that each listener takes.
 pub const MAX_CONNECTIONS: u32 = 1_000_000;
@@ -92,58 +94,79 @@ fn may_have(screens: usize, day: Option<&Word>) -> bool
     }
 }
 
+// For each number of words a function has the form of so many.
+#[tactic(auto, using(crate::proofs::Forms::counted))]
 fn order_of_words(words: &[Word]) -> Option<Order<'_>>
     ensures order { option_map order_shown result ≡ order_of_words words.now }
     ensures some { IfSome result (λ order. 1 ≤ order.connections) }
 {
     match words {
-        [word, airport, types, number] => ordered_by(word, airport, types, number, None),
-        [word, airport, types, number, screen, day]
-            if screen.text() == "screen" && is_plain_number(day.text().as_bytes()) => {
-            ordered_by(word, airport, types, number, Some(day))
+        [word, airport, types, number] => order_of_desks(word, airport, types, number),
+        [word, airport, types, number, screen, day] => {
+            order_with_screens(word, airport, types, number, screen, day)
         }
         _ => None,
     }
 }
 
-fn ordered_by<'w>(
+fn order_of_desks<'w>(
     word: &Word,
     airport: &'w Word,
     types: &'w Word,
     number: &Word,
-    day: Option<&'w Word>,
 ) -> Option<Order<'w>>
     ensures order { option_map order_shown result
-        ≡ ordered_by word.now airport.now types.now number.now (option_copied day.entry) }
+        ≡ order_of_words (word.now ∷ airport.now ∷ types.now ∷ number.now ∷ []) }
     ensures some { IfSome result (λ order. 1 ≤ order.connections) }
 {
-    let number = number.text().as_bytes();
-    if word.text() == "serve" && is_plain_number(number) {
-        order_if_counted(airport, types, day, number_of(number, MAX_DIGITS))
+    if word.text() == "serve" {
+        Some(Order {
+            airport,
+            types,
+            connections: connections_of(number)?,
+            day: None,
+        })
     } else {
         None
     }
 }
 
-fn order_if_counted<'w>(
+fn order_with_screens<'w>(
+    word: &Word,
     airport: &'w Word,
     types: &'w Word,
-    day: Option<&'w Word>,
-    number: Option<u64>,
+    number: &Word,
+    screen: &Word,
+    day: &'w Word,
 ) -> Option<Order<'w>>
     ensures order { option_map order_shown result
-        ≡ order_if_counted airport.now types.now (option_copied day.entry) number }
+        ≡ order_of_words
+        (word.now ∷ airport.now ∷ types.now ∷ number.now ∷ screen.now ∷ day.now ∷ []) }
     ensures some { IfSome result (λ order. 1 ≤ order.connections) }
 {
-    match number {
-        Some(connections) if 1 <= connections && connections <= u64::from(MAX_CONNECTIONS) => {
+    if word.text() == "serve" {
+        let connections = connections_of(number)?;
+        if screen.text() == "screen" && is_plain_number(day.text().as_bytes()) {
             Some(Order {
                 airport,
                 types,
-                connections: connections as u32,
-                day,
+                connections,
+                day: Some(day),
             })
+        } else {
+            None
         }
-        _ => None,
+    } else {
+        None
     }
+}
+
+/// How many connections each listener is to take by this word: `None` if it is not a number of 1 to
+/// 1,000,000.
+pub fn connections_of(number: &Word) -> Option<u32>
+    ensures some { is_some result ≡ is_number 1 most_connections number.now }
+    ensures value { IfSome result (λ connections. connections ≡ value_of number.now) }
+    ensures least { IfSome result (λ connections. 1 ≤ connections) }
+{
+    plain_number(number.text().as_bytes(), 1, MAX_CONNECTIONS)
 }

@@ -21,7 +21,7 @@ use Rattle.desk_http.specs.Answers.{Answered, Answers, Sent, sends, sent_text}
 use Rattle.desk_http.specs.Complete.{AnswersEachBy, ComesToEnd, IsCompleteBy, IsUnhindered, SessionsAreComplete}
 use Rattle.desk_http.specs.Ports.{PortState}
 use Rattle.desk_http.specs.Runs.{Runs}
-use Rattle.desk_http.specs.Session.{ComesFirst, EndsAfter, IsCount, IsReadToEnd, Last, Moment, Progress, SessionBy, WritesLast, is_read_fault, is_write_fault, last_text, most_requests, nothing, refusal, reply, texts_of}
+use Rattle.desk_http.specs.Session.{ComesFirst, EndsAfter, IsCount, IsReadToEnd, Last, SessionState, Progress, SessionBy, WritesLast, is_read_fault, is_write_fault, last_text, most_requests, nothing, refusal, reply, texts_of}
 use Rattle.desk_http.proofs.SoFar.{runs_push, texts_of-push}
 
 -- the requests that are listed of some bytes begin with the open ones at their front, and go on
@@ -62,7 +62,7 @@ each_is_listed input requests ending reads few listed other lists =
     let count : length requests ≡ length listed = ap length same.0 in
     same.0 ∙ sym (take_all most_requests listed (omega arith))
 
-module _ (Comes : PortState → Request → Answered → PortState → Type 0) (airport : AirportParts) (before after : Moment) (input taken more : List ℕ)
+module _ (Comes : PortState → Request → Answered → PortState → Type 0) (airport : AirportParts) (before after : SessionState) (input taken more : List ℕ)
     (front : input ≡ taken ++ more) (done : Progress) (served : PortState) (splits : Splits taken done.requests done.rest) (stay : All IsOpen done.requests)
     (runs : Runs (λ old request sent new. Comes old request (sends sent) new) before.port done.requests done.sents served) where
   -- the requests that left the session open, in the whole input
@@ -149,7 +149,7 @@ module _ (Comes : PortState → Request → Answered → PortState → Type 0) (
   comes_to_end other last written ends read count is wrote counts free = absurd ends.0
 
 -- every session is complete
-pub sessions_complete_by : (Comes : PortState → Request → Answered → PortState → Type 0) (airport : AirportParts) (before after : Moment) (outcome : Outcome)
+pub sessions_complete_by : (Comes : PortState → Request → Answered → PortState → Type 0) (airport : AirportParts) (before after : SessionState) (outcome : Outcome)
     → SessionBy Comes airport before after outcome → IsCompleteBy Comes airport before after outcome
 sessions_complete_by Comes airport before after outcome session input told free =
     let took = session.took in

@@ -1,4 +1,4 @@
--- How a session ends: with its last turn, at its limit, or before it began.
+-- How a session ends: with its last exchange, at its limit, or before it began.
 use Rattle.std.proofs.Common.{◌≡◌, ◌∙◌, ◌<◌, ℕ, true, false, List, [], ◌++◌, length, take, refl, sym, subst, append-nil, arith, Some, Ok, Err, inl, inr}
 use Rattle.std.proofs.lemmas.List.Elements.{All-from_recursion}
 use Rattle.std.proofs.lemmas.Option.{same_Some}
@@ -13,16 +13,16 @@ use Rattle.http_framing.proofs.StreamLaws.{splits_more}
 use Rattle.http_framing.specs.declared.incoming.StreamEnd.TheVariants.{Ended as Between, Cut as Inside}
 use Rattle.desk_http.specs.Answers.{Answered, Sent, sent_text}
 use Rattle.desk_http.specs.Ports.{PortState}
-use Rattle.desk_http.specs.Serving.{SoFar, TakesTurn, outcome_of}
-use Rattle.desk_http.specs.Session.{EndsAfter, IsCount, IsReadToEnd, Last, nothing, reply, refusal, Moment, SessionBy, WritesLast, is_read_fault, is_write_fault, last_text, most_requests, no_progress, refusal_text, texts_of}
+use Rattle.desk_http.specs.Serving.{SoFar, TakesExchange, outcome_of}
+use Rattle.desk_http.specs.Session.{EndsAfter, IsCount, IsReadToEnd, Last, nothing, reply, refusal, SessionState, SessionBy, WritesLast, is_read_fault, is_write_fault, last_text, most_requests, no_progress, refusal_text, texts_of}
 use Rattle.desk_http.specs.declared.answering.NoReplyCause.TheVariants.{Exhausted, Unread}
-use Rattle.desk_http.specs.declared.serving.Turned.{Turned}
-use Rattle.desk_http.specs.declared.serving.Turned.TheVariants.{Request as Met, Refused, AtEnd, SourceFault}
+use Rattle.desk_http.specs.declared.serving.Exchange.{Exchange}
+use Rattle.desk_http.specs.declared.serving.Exchange.TheVariants.{Request as Met, Refused, AtEnd, SourceFault}
 use Rattle.desk_http.specs.declared.serving.Unserved.TheVariants.{NoReply, SinkFault}
 
 module _ (Comes : PortState → Request → Answered → PortState → Type 0) (airport : AirportParts) where
-  -- the last turn of a session
-  record EndsTurn (before after : Moment) (bytes : List ℕ) (outcome : Outcome) : Type 0 where
+  -- the last exchange of a session
+  record EndsExchange (before after : SessionState) (bytes : List ℕ) (outcome : Outcome) : Type 0 where
     pub piece : List ℕ
     pub last : Last
     pub written : List ℕ
@@ -34,13 +34,13 @@ module _ (Comes : PortState → Request → Answered → PortState → Type 0) (
     pub last_written : WritesLast outcome (last_text airport last) written
     pub wrote : Wrote (is_write_fault outcome) before.sink after.sink written
 
-  -- the turn ends the session so
-  ends_turn : (before after : Moment) (bytes left : List ℕ) (turned : Turned) (outcome : Outcome)
-      → TakesTurn Comes airport before after bytes left turned → outcome_of turned ≡ Some outcome → EndsTurn before after bytes outcome
-  ends_turn before after bytes left (Met false (Ok done)) outcome t e = absurd (cc)
-  ends_turn before after bytes left (Met true (Ok done)) outcome t e =
+  -- the exchange ends the session so
+  ends_exchange : (before after : SessionState) (bytes left : List ℕ) (met : Exchange) (outcome : Outcome)
+      → TakesExchange Comes airport before after bytes left met → outcome_of met ≡ Some outcome → EndsExchange before after bytes outcome
+  ends_exchange before after bytes left (Met false (Ok done)) outcome t e = absurd (cc)
+  ends_exchange before after bytes left (Met true (Ok done)) outcome t e =
       let m = t.meets in
-      subst (EndsTurn before after bytes) (same_Some _ _ e) (record {
+      subst (EndsExchange before after bytes) (same_Some _ _ e) (record {
         piece = t.piece;
         last = reply m.0 m.3.0;
         written = sent_text airport m.3.0;
@@ -51,9 +51,9 @@ module _ (Comes : PortState → Request → Answered → PortState → Type 0) (
         last_written = refl;
         wrote = m.3.2;
       })
-  ends_turn before after bytes left (Met closes (Err SinkFault)) outcome t e =
+  ends_exchange before after bytes left (Met closes (Err SinkFault)) outcome t e =
       let m = t.meets in
-      subst (EndsTurn before after bytes) (same_Some _ _ e) (record {
+      subst (EndsExchange before after bytes) (same_Some _ _ e) (record {
         piece = t.piece;
         last = reply m.0 m.3.0;
         written = take m.3.2 (sent_text airport m.3.0);
@@ -64,9 +64,9 @@ module _ (Comes : PortState → Request → Answered → PortState → Type 0) (
         last_written = (m.3.2, refl);
         wrote = m.3.3;
       })
-  ends_turn before after bytes left (Met closes (Err (NoReply Exhausted))) outcome t e =
+  ends_exchange before after bytes left (Met closes (Err (NoReply Exhausted))) outcome t e =
       let m = t.meets in
-      subst (EndsTurn before after bytes) (same_Some _ _ e) (record {
+      subst (EndsExchange before after bytes) (same_Some _ _ e) (record {
         piece = t.piece;
         last = nothing;
         written = [];
@@ -77,9 +77,9 @@ module _ (Comes : PortState → Request → Answered → PortState → Type 0) (
         last_written = refl;
         wrote = m.3.1;
       })
-  ends_turn before after bytes left (Met closes (Err (NoReply Unread))) outcome t e =
+  ends_exchange before after bytes left (Met closes (Err (NoReply Unread))) outcome t e =
       let m = t.meets in
-      subst (EndsTurn before after bytes) (same_Some _ _ e) (record {
+      subst (EndsExchange before after bytes) (same_Some _ _ e) (record {
         piece = t.piece;
         last = nothing;
         written = [];
@@ -90,9 +90,9 @@ module _ (Comes : PortState → Request → Answered → PortState → Type 0) (
         last_written = refl;
         wrote = m.3.1;
       })
-  ends_turn before after bytes left (Refused (Ok done)) outcome t e =
+  ends_exchange before after bytes left (Refused (Ok done)) outcome t e =
       let m = t.meets in
-      subst (EndsTurn before after bytes) (same_Some _ _ e) (record {
+      subst (EndsExchange before after bytes) (same_Some _ _ e) (record {
         piece = t.piece;
         last = refusal m.0;
         written = refusal_text m.0;
@@ -103,9 +103,9 @@ module _ (Comes : PortState → Request → Answered → PortState → Type 0) (
         last_written = refl;
         wrote = m.2;
       })
-  ends_turn before after bytes left (Refused (Err failed)) outcome t e =
+  ends_exchange before after bytes left (Refused (Err failed)) outcome t e =
       let m = t.meets in
-      subst (EndsTurn before after bytes) (same_Some _ _ e) (record {
+      subst (EndsExchange before after bytes) (same_Some _ _ e) (record {
         piece = t.piece;
         last = refusal m.0;
         written = take m.2.0 (refusal_text m.0);
@@ -116,9 +116,9 @@ module _ (Comes : PortState → Request → Answered → PortState → Type 0) (
         last_written = (m.2.0, refl);
         wrote = m.2.1;
       })
-  ends_turn before after bytes left (AtEnd Between) outcome t e =
+  ends_exchange before after bytes left (AtEnd Between) outcome t e =
       let m = t.meets in
-      subst (EndsTurn before after bytes) (same_Some _ _ e) (record {
+      subst (EndsExchange before after bytes) (same_Some _ _ e) (record {
         piece = t.piece;
         last = nothing;
         written = [];
@@ -129,9 +129,9 @@ module _ (Comes : PortState → Request → Answered → PortState → Type 0) (
         last_written = refl;
         wrote = subst (λ sink. Wrote false before.sink sink []) (sym m.2) (wrote_none before.sink);
       })
-  ends_turn before after bytes left (AtEnd Inside) outcome t e =
+  ends_exchange before after bytes left (AtEnd Inside) outcome t e =
       let m = t.meets in
-      subst (EndsTurn before after bytes) (same_Some _ _ e) (record {
+      subst (EndsExchange before after bytes) (same_Some _ _ e) (record {
         piece = t.piece;
         last = nothing;
         written = [];
@@ -142,9 +142,9 @@ module _ (Comes : PortState → Request → Answered → PortState → Type 0) (
         last_written = refl;
         wrote = subst (λ sink. Wrote false before.sink sink []) (sym m.2) (wrote_none before.sink);
       })
-  ends_turn before after bytes left SourceFault outcome t e =
+  ends_exchange before after bytes left SourceFault outcome t e =
       let m = t.meets in
-      subst (EndsTurn before after bytes) (same_Some _ _ e) (record {
+      subst (EndsExchange before after bytes) (same_Some _ _ e) (record {
         piece = t.piece;
         last = nothing;
         written = [];
@@ -156,12 +156,12 @@ module _ (Comes : PortState → Request → Answered → PortState → Type 0) (
         wrote = subst (λ sink. Wrote false before.sink sink []) (sym m.1) (wrote_none before.sink);
       })
 
-  -- the session ends with this turn
-  pub ends_with : (before middle after : Moment) (rest left : List ℕ) (count : ℕ) (turned : Turned) (outcome : Outcome)
+  -- the session ends with this exchange
+  pub ends_with : (before middle after : SessionState) (rest left : List ℕ) (count : ℕ) (met : Exchange) (outcome : Outcome)
       → SoFar Comes airport before middle rest count → count < most_requests
-      → TakesTurn Comes airport middle after rest left turned → outcome_of turned ≡ Some outcome → SessionBy Comes airport before after outcome
-  ends_with before middle after rest left count turned outcome h few turn e =
-      let t = ends_turn middle after rest left turned outcome turn e in record {
+      → TakesExchange Comes airport middle after rest left met → outcome_of met ≡ Some outcome → SessionBy Comes airport before after outcome
+  ends_with before middle after rest left count met outcome h few exchange e =
+      let t = ends_exchange middle after rest left met outcome exchange e in record {
         taken = h.taken ++ t.piece;
         done = record { requests = h.requests; sents = h.sents; rest = rest ++ t.piece };
         served = middle.port;
@@ -179,7 +179,7 @@ module _ (Comes : PortState → Request → Answered → PortState → Type 0) (
       }
 
   -- it ends with the most requests that it answers
-  pub reaches_limit : (before now : Moment) (rest : List ℕ) (count : ℕ) → SoFar Comes airport before now rest count → count ≡ most_requests
+  pub reaches_limit : (before now : SessionState) (rest : List ℕ) (count : ℕ) → SoFar Comes airport before now rest count → count ≡ most_requests
       → SessionBy Comes airport before now Limit
   reaches_limit before now rest count h most = record {
     taken = h.taken;
@@ -199,7 +199,7 @@ module _ (Comes : PortState → Request → Answered → PortState → Type 0) (
   }
 
   -- no memory was there to begin with
-  pub ends_unbegun : (now : Moment) → SessionBy Comes airport now now Memory
+  pub ends_unbegun : (now : SessionState) → SessionBy Comes airport now now Memory
   ends_unbegun now = record {
     taken = [];
     done = no_progress;

@@ -1,4 +1,4 @@
--- A session's progress: nothing yet, and one turn more.
+-- A session's progress: nothing yet, and one exchange more.
 use Rattle.std.proofs.Common.{◌≡◌, ◌∙◌, ◌+◌, ℕ, true, false, List, [], ◌∷◌, ◌++◌, refl, sym, ap, subst, append_assoc, append-nil, length-append, None, Ok, Err}
 use Rattle.std.specs.Prelude.{All}
 use Rattle.std.proofs.lemmas.List.Elements.{All-append, All-from_recursion}
@@ -12,11 +12,11 @@ use Rattle.http_framing.proofs.StreamLaws.{splits_more, splits_push}
 use Rattle.desk_http.specs.Answers.{Answered, sends, Sent, sent_text}
 use Rattle.desk_http.specs.Ports.{PortState}
 use Rattle.desk_http.specs.Runs.{Runs}
-use Rattle.desk_http.specs.Serving.{SoFar, TakesTurn, outcome_of}
-use Rattle.desk_http.specs.Session.{Moment, texts_of}
+use Rattle.desk_http.specs.Serving.{SoFar, TakesExchange, outcome_of}
+use Rattle.desk_http.specs.Session.{SessionState, texts_of}
 use Rattle.desk_http.specs.declared.answering.NoReplyCause.TheVariants.{Exhausted, Unread}
-use Rattle.desk_http.specs.declared.serving.Turned.{Turned}
-use Rattle.desk_http.specs.declared.serving.Turned.TheVariants.{Request as Met, Refused, AtEnd, SourceFault}
+use Rattle.desk_http.specs.declared.serving.Exchange.{Exchange}
+use Rattle.desk_http.specs.declared.serving.Exchange.TheVariants.{Request as Met, Refused, AtEnd, SourceFault}
 use Rattle.desk_http.specs.declared.serving.Unserved.TheVariants.{NoReply, SinkFault}
 use Rattle.http_framing.specs.declared.incoming.StreamEnd.TheVariants.{Ended as Between, Cut as Inside}
 
@@ -38,7 +38,7 @@ stay_push requests request h stays = All-append IsOpen requests (request ∷ [])
 
 module _ (Comes : PortState → Request → Answered → PortState → Type 0) (airport : AirportParts) where
   -- nothing yet
-  pub begins : (now : Moment) (rest : List ℕ) → rest ≡ [] → SoFar Comes airport now now rest 0
+  pub begins : (now : SessionState) (rest : List ℕ) → rest ≡ [] → SoFar Comes airport now now rest 0
   begins now rest empty = record {
     taken = [];
     requests = [];
@@ -51,9 +51,9 @@ module _ (Comes : PortState → Request → Answered → PortState → Type 0) (
     counted = refl;
   }
 
-  -- one turn that the session goes on after
-  pub goes_on : (before middle after : Moment) (rest left : List ℕ) (count : ℕ) (turned : Turned)
-      → SoFar Comes airport before middle rest count → TakesTurn Comes airport middle after rest left turned → outcome_of turned ≡ None
+  -- one exchange that the session goes on after
+  pub goes_on : (before middle after : SessionState) (rest left : List ℕ) (count : ℕ) (met : Exchange)
+      → SoFar Comes airport before middle rest count → TakesExchange Comes airport middle after rest left met → outcome_of met ≡ None
       → SoFar Comes airport before after left (count + 1)
   goes_on before middle after rest left count (Met false (Ok done)) h t e =
       let request = t.meets.0 in
@@ -79,9 +79,9 @@ module _ (Comes : PortState → Request → Answered → PortState → Type 0) (
   goes_on before middle after rest left count (AtEnd Inside) h t e = absurd (cc)
   goes_on before middle after rest left count SourceFault h t e = absurd (cc)
 
--- a turn at a place and an airport, by their other names
-pub turn_at : {Place : Type 0} (comes : Place → AirportParts → PortState → Request → Answered → PortState → Type 0) (place at : Place) (there here : AirportParts) (before after : Moment) (bytes left : List ℕ)
-    (turned : Turned) → place ≡ at → there ≡ here → TakesTurn (comes place there) there before after bytes left turned → TakesTurn (comes at here) here before after bytes left turned
-turn_at comes place at there here before after bytes left turned same_place same t =
-    subst (λ airport. TakesTurn (comes at airport) airport before after bytes left turned) same
-    (subst (λ p. TakesTurn (comes p there) there before after bytes left turned) same_place t)
+-- an exchange at what is fixed and an airport, by their other names
+pub exchange_at : {Fixed : Type 0} (comes : Fixed → AirportParts → PortState → Request → Answered → PortState → Type 0) (fixed at : Fixed) (there here : AirportParts) (before after : SessionState) (bytes left : List ℕ)
+    (met : Exchange) → fixed ≡ at → there ≡ here → TakesExchange (comes fixed there) there before after bytes left met → TakesExchange (comes at here) here before after bytes left met
+exchange_at comes fixed at there here before after bytes left met same_fixed same t =
+    subst (λ airport. TakesExchange (comes at airport) airport before after bytes left met) same
+    (subst (λ p. TakesExchange (comes p there) there before after bytes left met) same_fixed t)

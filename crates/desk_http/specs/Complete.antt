@@ -14,11 +14,11 @@ use Rattle.history_core.specs.Answer.{Given}
 use Rattle.desk_http.specs.Answers.{Answered, Answers, Sent, sends}
 use Rattle.desk_http.specs.Ports.{PortState}
 use Rattle.desk_http.specs.Runs.{Runs}
-use Rattle.desk_http.specs.Session.{Moment, SessionOf, most_requests, refusal_text, texts_of}
+use Rattle.desk_http.specs.Session.{SessionState, SessionOf, most_requests, refusal_text, texts_of}
 
 -- nothing hindered a session: memory did not run out, its port had a number for each call, and the
 -- counts of faults of its source and its sink neither rose nor are at their greatest value
-pub record IsUnhindered (before after : Moment) (outcome : Outcome) : Type 0 where
+pub record IsUnhindered (before after : SessionState) (outcome : Outcome) : Type 0 where
   pub memory : ¬ (outcome ≡ Memory)
   pub numbers : ¬ (outcome ≡ Spent)
   pub source : ¬ (Rose before.source.faults after.source.faults)
@@ -42,7 +42,7 @@ module _ (Comes : PortState → Request → Answered → PortState → Type 0)
     (airport : AirportParts) where
   -- The requests of the input were answered one after another, each that has fewer than a million
   -- before it, by what came of it at its place. Their replies were written whole.
-  pub record AnswersEachBy (before after : Moment) (outcome : Outcome)
+  pub record AnswersEachBy (before after : SessionState) (outcome : Outcome)
       (input : List ℕ) : Type 0 where
     pub requests : List Request
     pub sents : List Sent
@@ -57,7 +57,7 @@ module _ (Comes : PortState → Request → Answered → PortState → Type 0)
 
   -- each session that nothing hindered, and whose source tells its bytes, answers each of their
   -- requests
-  abbrev pub IsCompleteBy : Moment → Moment → Outcome → Type 0
+  abbrev pub IsCompleteBy : SessionState → SessionState → Outcome → Type 0
   IsCompleteBy before after outcome =
       (input : List ℕ)
       → before.source.left ≡ Some input
@@ -67,14 +67,14 @@ module _ (Comes : PortState → Request → Answered → PortState → Type 0)
 -- each request of the input was answered by its early reply, or by what the port gave for it at its
 -- place
 abbrev pub AnswersEach : (AirportParts → PortState → Ask → Given → PortState → Type 0)
-    → AirportParts → Moment → Moment → Outcome → List ℕ → Type 0
+    → AirportParts → SessionState → SessionState → Outcome → List ℕ → Type 0
 AnswersEach asks airport before after outcome input =
     AnswersEachBy (Answers asks airport) airport before after outcome input
 
 -- the same of a session over a port: `asks` says what a port of the airport gives for an ask and
 -- what it becomes
 abbrev pub IsSessionComplete : (AirportParts → PortState → Ask → Given → PortState → Type 0)
-    → AirportParts → Moment → Moment → Outcome → Type 0
+    → AirportParts → SessionState → SessionState → Outcome → Type 0
 IsSessionComplete asks airport before after outcome =
     IsCompleteBy (Answers asks airport) airport before after outcome
 
@@ -82,6 +82,6 @@ IsSessionComplete asks airport before after outcome =
 abbrev pub SessionsAreComplete : (AirportParts → PortState → Ask → Given → PortState → Type 0)
     → Type 0
 SessionsAreComplete asks =
-    (airport : AirportParts) (before after : Moment) (outcome : Outcome)
+    (airport : AirportParts) (before after : SessionState) (outcome : Outcome)
     → SessionOf asks airport before after outcome
     → IsSessionComplete asks airport before after outcome

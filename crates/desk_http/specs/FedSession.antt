@@ -15,7 +15,7 @@ use Rattle.desk_http.specs.FeedPorts.{FeedGiven}
 use Rattle.desk_http.specs.FeedTargets.{feed_of}
 use Rattle.desk_http.specs.Ports.{IsExhausted, PortState}
 use Rattle.desk_http.specs.Routes.{Said, said_in}
-use Rattle.desk_http.specs.Session.{Moment, SessionBy}
+use Rattle.desk_http.specs.Session.{SessionState, SessionBy}
 use Rattle.desk_http.specs.declared.port.Feed.{Feed}
 use Rattle.desk_http.specs.declared.port.FeedAsk.{FeedAsk}
 
@@ -60,6 +60,6 @@ module _ (asks : AirportParts → PortState → Ask → Given → PortState → 
       FedAnswersTo (feed_asked (said_in request)) airport before request answered after
 
   -- a session with feeds over a port
-  abbrev pub FedSessionOf : AirportParts → Moment → Moment → Outcome → Type 0
+  abbrev pub FedSessionOf : AirportParts → SessionState → SessionState → Outcome → Type 0
   FedSessionOf airport before after outcome =
       SessionBy (FedAnswers airport) airport before after outcome

@@ -8,14 +8,14 @@ use Rattle.desk_http.specs.Answers.{Answered, sends, exhausted, unread, Sent, se
 use Rattle.desk_http.specs.FeedPorts.{FeedGiven, feed_given_text}
 use Rattle.desk_http.specs.Ports.{PortState, IsExhausted}
 use Rattle.desk_http.specs.declared.answering.PreparedReply.{PreparedReply}
-use Rattle.desk_http.specs.declared.answering.PreparedReply.TheVariants.{Told, Early, Fixed}
+use Rattle.desk_http.specs.declared.answering.PreparedReply.TheVariants.{Plan, Early, Fixed}
 use Rattle.desk_http.specs.declared.answering.NoReplyCause.{NoReplyCause}
 use Rattle.desk_http.specs.declared.answering.NoReplyCause.TheVariants.{Exhausted, Unread}
 use Rattle.desk_http.specs.declared.port.FeedAsk.{FeedAsk}
 
 -- the bytes of a reply
 abbrev pub reply_bytes : PreparedReply → List ℕ
-reply_bytes (Told bytes) = bytes
+reply_bytes (Plan bytes) = bytes
 reply_bytes (Early early) = early_text early
 reply_bytes (Fixed bytes) = bytes.now
 

@@ -15,12 +15,12 @@ use Rattle.desk_http.specs.Answers.{Answered, sends, Sent, sent_text}
 use Rattle.desk_http.specs.Ports.{PortState}
 use Rattle.desk_http.specs.Runs.{Runs}
 use Rattle.desk_http.specs.Replies.{answered_as}
-use Rattle.desk_http.specs.Session.{Moment, refusal_text, texts_of}
+use Rattle.desk_http.specs.Session.{SessionState, refusal_text, texts_of}
 use Rattle.desk_http.specs.declared.reading.More.{More}
 use Rattle.desk_http.specs.declared.reading.More.TheVariants.{Taken, AtEnd as NoMore, Fault}
 use Rattle.desk_http.specs.declared.answering.NoReplyCause.TheVariants.{Exhausted, Unread}
-use Rattle.desk_http.specs.declared.serving.Turned.{Turned}
-use Rattle.desk_http.specs.declared.serving.Turned.TheVariants.{Request as Met, Refused, AtEnd, SourceFault}
+use Rattle.desk_http.specs.declared.serving.Exchange.{Exchange}
+use Rattle.desk_http.specs.declared.serving.Exchange.TheVariants.{Request as Met, Refused, AtEnd, SourceFault}
 use Rattle.desk_http.specs.declared.serving.Unserved.{Unserved}
 use Rattle.desk_http.specs.declared.serving.Unserved.TheVariants.{NoReply, SinkFault}
 
@@ -32,8 +32,8 @@ TakesMore before after old new NoMore =
     Took false before after [] × (new ≡ old) × IsAtEnd after.left
 TakesMore before after old new Fault = Took true before after [] × (new ≡ old)
 
--- how a session ends after such a turn; none if it goes on
-abbrev pub outcome_of : Turned → Option Outcome
+-- how a session ends after such an exchange; none if it goes on
+abbrev pub outcome_of : Exchange → Option Outcome
 outcome_of (Met closes (Ok done)) = if closes then Some Closed else None
 outcome_of (Met closes (Err SinkFault)) = Some WriteFault
 outcome_of (Met closes (Err (NoReply Exhausted))) = Some Spent
@@ -44,10 +44,10 @@ outcome_of (AtEnd Between) = Some Ended
 outcome_of (AtEnd Inside) = Some Cut
 outcome_of SourceFault = Some ReadFault
 
--- whether the source failed in the turn
-abbrev pub is_source_fault : Turned → Bool
+-- whether the source failed in the exchange
+abbrev pub is_source_fault : Exchange → Bool
 is_source_fault SourceFault = true
-is_source_fault turned = false
+is_source_fault met = false
 
 -- `came` says what came of a request, and what the port became
 module _ (airport : AirportParts) (came : Answered → PortState → Type 0) where
@@ -67,7 +67,7 @@ module _ (airport : AirportParts) (came : Answered → PortState → Type 0) whe
 module _ (Comes : PortState → Request → Answered → PortState → Type 0)
     (airport : AirportParts) where
   -- what a session has done so far: each reply whole, and none of the requests closing
-  pub record SoFar (before now : Moment) (rest : List ℕ) (count : ℕ) : Type 0 where
+  pub record SoFar (before now : SessionState) (rest : List ℕ) (count : ℕ) : Type 0 where
     pub taken : List ℕ
     pub requests : List Request
     pub sents : List Sent
@@ -80,7 +80,7 @@ module _ (Comes : PortState → Request → Answered → PortState → Type 0)
     pub counted : length requests ≡ count
 
   -- what was met at the front of the bytes, and what was done with it
-  abbrev pub ServesFront : Moment → Moment → List ℕ → List ℕ → Turned → Type 0
+  abbrev pub ServesFront : SessionState → SessionState → List ℕ → List ℕ → Exchange → Type 0
   ServesFront before after bytes left (Met closes served) =
       (request : Request) × HasRequest bytes request left × (closes ≡ is_closing request.head)
       × IsServed airport (Comes before.port request) before.sink after.sink served after.port
@@ -97,9 +97,9 @@ module _ (Comes : PortState → Request → Answered → PortState → Type 0)
   ServesFront before after bytes left SourceFault =
       IsPartial bytes × (after.sink ≡ before.sink) × (after.port ≡ before.port)
 
-  -- one turn: more bytes were taken, and then what stood at the front was met
-  pub record TakesTurn (before after : Moment) (bytes left : List ℕ)
-      (turned : Turned) : Type 0 where
+  -- one exchange: more bytes were taken, and then what stood at the front was met
+  pub record TakesExchange (before after : SessionState) (bytes left : List ℕ)
+      (met : Exchange) : Type 0 where
     pub piece : List ℕ
-    pub took : Took (is_source_fault turned) before.source after.source piece
-    pub meets : ServesFront before after (bytes ++ piece) left turned
+    pub took : Took (is_source_fault met) before.source after.source piece
+    pub meets : ServesFront before after (bytes ++ piece) left met

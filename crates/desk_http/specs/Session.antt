@@ -18,8 +18,8 @@ use Rattle.desk_http.specs.Answers.{Answered, sends, exhausted, unread, Answers,
 use Rattle.desk_http.specs.Ports.{PortState}
 use Rattle.desk_http.specs.Runs.{Runs}
 
--- what is known of the ends of a session and of its port at one moment
-pub record Moment : Type 0 where
+-- what is known of the ends of a session and of its port at one time
+pub record SessionState : Type 0 where
   pub source : SourceState
   pub sink : SinkState
   pub port : PortState
@@ -130,7 +130,7 @@ module _ (Comes : PortState → Request → Answered → PortState → Type 0) w
 
   -- One session: it took these bytes, answered the requests at their front one after another, and
   -- ended with what was sent last.
-  pub record SessionBy (airport : AirportParts) (before after : Moment)
+  pub record SessionBy (airport : AirportParts) (before after : SessionState)
       (outcome : Outcome) : Type 0 where
     pub taken : List ℕ
     pub done : Progress
@@ -152,7 +152,7 @@ module _ (Comes : PortState → Request → Answered → PortState → Type 0) w
 -- a session over a port: `asks` says what a port of the airport gives for an ask and what it
 -- becomes
 abbrev pub SessionOf : (AirportParts → PortState → Ask → Given → PortState → Type 0) → AirportParts
-    → Moment → Moment → Outcome → Type 0
+    → SessionState → SessionState → Outcome → Type 0
 SessionOf asks airport before after outcome =
     SessionBy (Answers asks airport) airport before after outcome
 
@@ -163,5 +163,5 @@ pub record SessionKind : Type 1 where
   pub comes : PortState → Request → Answered → PortState → Type 0
 
 -- a session of this kind
-abbrev pub SessionOfKind : SessionKind → Moment → Moment → Outcome → Type 0
+abbrev pub SessionOfKind : SessionKind → SessionState → SessionState → Outcome → Type 0
 SessionOfKind kind before after outcome = SessionBy kind.comes kind.airport before after outcome

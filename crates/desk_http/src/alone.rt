@@ -49,11 +49,11 @@ impl<'a, K: Keeper> Alone<'a, K> {
 impl<'a, K: Keeper> DeskPort for Alone<'a, K> {
     ghost use Rattle.desk_http.specs.Alone.{AloneAsks, alone_port};
 
-    type Place = ();
+    type Fixed = ();
 
     ghost airport_of = { λ a. a.board.airport };
 
-    ghost place = { λ a. tt };
+    ghost fixed = { λ a. tt };
 
     ghost port = { alone_port K.state };
 

@@ -18,7 +18,7 @@ use std::alloc::Global;
 #[derive(Debug, Drop)]
 pub(crate) enum PreparedReply {
     /// What the plan gave.
-    Told(Listed<u8>),
+    Plan(Listed<u8>),
     /// What was fixed before the plan was consulted, whose text takes no memory.
     Early(EarlyReply),
     /// A constant.
@@ -40,7 +40,7 @@ impl PreparedReply {
         ensures puts { Puts (W.state sink.old) (W.state sink.new) result (reply_bytes self.now) }
     {
         match self {
-            PreparedReply::Told(text) => sink.put(text.as_slice()),
+            PreparedReply::Plan(text) => sink.put(text.as_slice()),
             PreparedReply::Early(early) => sink.put(early_bytes(*early).as_slice()),
             PreparedReply::Fixed(text) => sink.put(text),
         }
@@ -56,8 +56,8 @@ pub(crate) trait Answerer<P: DeskPort> {
     ghost use Rattle.desk_http.specs.Ports.{PortState};
     ghost use Rattle.desk_http.specs.Replies.{IsAnswer};
 
-    /// What comes of a request at the port's place and the airport, and what the port becomes.
-    ghost comes: { P.Place → AirportParts → PortState → Request → Answered → PortState → Type 0 };
+    /// What comes of a request at what is fixed of the port and the airport, and what it becomes.
+    ghost comes: { P.Fixed → AirportParts → PortState → Request → Answered → PortState → Type 0 };
 
     /// Answers the request with these parts.
     fn answer(
@@ -67,18 +67,18 @@ pub(crate) trait Answerer<P: DeskPort> {
         parts: &RequestParts<'_>,
     ) -> Result<PreparedReply, NoReplyCause>
         ensures airport { P.airport_of port.new ≡ P.airport_of port.old }
-        ensures place { P.place port.new ≡ P.place port.old }
+        ensures fixed { P.fixed port.new ≡ P.fixed port.old }
         ensures came { (request : Request)
             → ArePartsOf request parts.now
             → IsAnswer (P.airport_of port.old)
-            (comes (P.place port.old) (P.airport_of port.old) (P.port port.old) request) result
+            (comes (P.fixed port.old) (P.airport_of port.old) (P.port port.old) request) result
             (P.port port.new) };
 }
 
 impl<P: DeskPort> Answerer<P> for DeskRoutes {
     ghost use Rattle.desk_http.specs.Answers.{Answers};
 
-    ghost comes = { λ place. Answers P.asks };
+    ghost comes = { λ fixed. Answers P.asks };
 
     fn answer(
         &self,
@@ -98,12 +98,12 @@ impl<P: DeskPort> Answerer<P> for DeskRoutes {
 fn answer_ask<P: DeskPort>(alloc: Global, port: &mut P, ask: &Ask) -> Option<PreparedReply>
     requires valid { IsAskOf (P.airport_of port.old) ask.now }
     ensures airport { P.airport_of port.new ≡ P.airport_of port.old }
-    ensures place { P.place port.new ≡ P.place port.old }
+    ensures fixed { P.fixed port.new ≡ P.fixed port.old }
     ensures came { IsReply P.asks (P.airport_of port.old) (P.port port.old) ask.now
         result (P.port port.new) }
 {
     match port.ask(alloc, ask) {
-        Acted::Reply(bytes) => Some(PreparedReply::Told(bytes)),
+        Acted::Reply(bytes) => Some(PreparedReply::Plan(bytes)),
         Acted::Memory => Some(PreparedReply::Fixed(fixed::no_memory())),
         Acted::Fault => Some(PreparedReply::Fixed(fixed::keeper_fault())),
         Acted::Spent => None,

@@ -26,18 +26,18 @@ pub fn session_fed<P: FeedPort, S: Source, W: Sink>(
     source: &mut S,
     sink: &mut W,
 ) -> Outcome
-    ensures of { FedSessionOf P.asks (P.feeds (P.place port.old)) (P.airport_of port.old)
+    ensures of { FedSessionOf P.asks (P.feeds (P.fixed port.old)) (P.airport_of port.old)
         (record { source = S.state source.old; sink = W.state sink.old; port = P.port port.old })
         (record { source = S.state source.new; sink = W.state sink.new; port = P.port port.new })
         result }
     ensures complete { IsCompleteBy
-        (FedAnswers P.asks (P.feeds (P.place port.old)) (P.airport_of port.old))
+        (FedAnswers P.asks (P.feeds (P.fixed port.old)) (P.airport_of port.old))
         (P.airport_of port.old)
         (record { source = S.state source.old; sink = W.state sink.old; port = P.port port.old })
         (record { source = S.state source.new; sink = W.state sink.new; port = P.port port.new })
         result }
     ensures airport { P.airport_of port.new ≡ P.airport_of port.old }
-    ensures place { P.place port.new ≡ P.place port.old }
+    ensures fixed { P.fixed port.new ≡ P.fixed port.old }
 {
     let Ok(desk) = DeskRoutes::new(alloc) else {
         return Outcome::Memory;
@@ -54,7 +54,7 @@ struct FedRoutes {
 impl<P: FeedPort> Answerer<P> for FedRoutes {
     ghost use Rattle.desk_http.specs.FedSession.{FedAnswers};
 
-    ghost comes = { λ place. FedAnswers P.asks (P.feeds place) };
+    ghost comes = { λ fixed. FedAnswers P.asks (P.feeds fixed) };
 
     fn answer(
         &self,
@@ -73,13 +73,13 @@ impl<P: FeedPort> Answerer<P> for FedRoutes {
 // The reply to a feed; none if the port's call numbers have run out.
 fn answer_feed<P: FeedPort>(alloc: Global, port: &mut P, ask: &FeedAsk) -> Option<PreparedReply>
     ensures airport { P.airport_of port.new ≡ P.airport_of port.old }
-    ensures place { P.place port.new ≡ P.place port.old }
-    ensures came { IsFeedReply (P.feeds (P.place port.old) (P.airport_of port.old))
+    ensures fixed { P.fixed port.new ≡ P.fixed port.old }
+    ensures came { IsFeedReply (P.feeds (P.fixed port.old) (P.airport_of port.old))
         (P.port port.old) ask.now result (P.port port.new) }
 {
     let Feed { watch, after } = ask.feed;
     match port.feed(alloc, ask.seen, &watch, after) {
-        Acted::Reply(text) => Some(PreparedReply::Told(text)),
+        Acted::Reply(text) => Some(PreparedReply::Plan(text)),
         Acted::Memory => Some(PreparedReply::Fixed(fixed::no_memory())),
         Acted::Fault => unreachable!(),
         Acted::Spent => None,

@@ -16,13 +16,13 @@ pub trait DeskPort {
     ghost use Rattle.desk_http.specs.Ports.{PortState, Turn, ShowsAsk};
 
     /// What no call changes beside the airport.
-    type Place;
+    type Fixed;
 
     /// The airport of the board's plan. No call changes it.
     ghost airport_of: { Self → AirportParts };
 
-    /// The port's place: for a seat its board and its share. No call changes it.
-    ghost place: { Self → Self.Place };
+    /// What is fixed of the port: for a seat its board and its share. No call changes it.
+    ghost fixed: { Self → Self.Fixed };
 
     /// What the port tells of itself.
     ghost port: { Self → PortState };
@@ -39,7 +39,7 @@ pub trait DeskPort {
     fn ask(&mut self, alloc: Global, ask: &Ask) -> Acted
         requires valid { IsAskOf (airport_of self.old) ask.now }
         ensures airport { airport_of self.new ≡ airport_of self.old }
-        ensures place { place self.new ≡ place self.old }
+        ensures fixed { fixed self.new ≡ fixed self.old }
         ensures shows { ShowsAsk asks (airport_of self.old) (port self.old) ask.now
             result (port self.new) };
 
@@ -77,10 +77,10 @@ pub trait FeedPort: DeskPort {
     ghost use Rattle.desk_http.specs.declared.port.FeedAsk.{FeedAsk};
 
     /// The text of the reply to each feed at each history of the airport.
-    ghost feed_text: { Self.Place → AirportParts → FeedAsk → List Entry → List ℕ };
+    ghost feed_text: { Self.Fixed → AirportParts → FeedAsk → List Entry → List ℕ };
 
-    /// What it gives for a feed at that place and airport, and what it becomes.
-    ghost feeds: { Self.Place → AirportParts → PortState → FeedAsk → FeedGiven → PortState
+    /// What it gives for a feed at what is fixed and that airport, and what it becomes.
+    ghost feeds: { Self.Fixed → AirportParts → PortState → FeedAsk → FeedGiven → PortState
         → Type 0 };
 
     /// Answers a feed: the bumps that the watch of this name picks, of those after the version
@@ -88,15 +88,15 @@ pub trait FeedPort: DeskPort {
     /// Spent comes if the port's call numbers have run out, and then no call was made.
     fn feed(&mut self, alloc: Global, seen: u32, watch: &Name, after: u32) -> Acted
         ensures airport { Self.airport_of self.new ≡ Self.airport_of self.old }
-        ensures place { Self.place self.new ≡ Self.place self.old }
-        ensures shows { ShowsFeed (feeds (Self.place self.old) (Self.airport_of self.old))
+        ensures fixed { Self.fixed self.new ≡ Self.fixed self.old }
+        ensures shows { ShowsFeed (feeds (Self.fixed self.old) (Self.airport_of self.old))
             (Self.port self.old)
             (record { seen = seen; feed = record { watch = watch.now; after = after } }) result
             (Self.port self.new) };
 
     /// Whatever a port gives for a feed, it gives at the whole history as the feed's turn found it.
-    ghost feeds_take_turns: { (place : Self.Place) (airport : AirportParts)
+    ghost feeds_take_turns: { (fixed : Self.Fixed) (airport : AirportParts)
         (before after : PortState) (ask : FeedAsk) (given : FeedGiven)
-        → feeds place airport before ask given after
-        → FeedTurn airport (feed_text place airport ask) before given after };
+        → feeds fixed airport before ask given after
+        → FeedTurn airport (feed_text fixed airport ask) before given after };
 }

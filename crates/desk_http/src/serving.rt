@@ -4,7 +4,7 @@ ghost use Rattle.http_framing.specs.Fronts.{ArePartsOf};
 ghost use Rattle.http_framing.specs.Requests.{Request};
 ghost use Rattle.desk_http.specs.Complete.{IsSessionComplete};
 ghost use Rattle.desk_http.specs.Session.{SessionBy, SessionOf, refusal_text as refusal_text_lem};
-ghost use Rattle.desk_http.specs.Serving.{IsServed, TakesTurn, outcome_of as outcome_of_lem};
+ghost use Rattle.desk_http.specs.Serving.{IsServed, TakesExchange, outcome_of as outcome_of_lem};
 
 use crate::DeskPort;
 use crate::answering::{Answerer, NoReplyCause};
@@ -36,7 +36,7 @@ pub fn session<P: DeskPort, S: Source, W: Sink>(
         (record { source = S.state source.new; sink = W.state sink.new; port = P.port port.new })
         result }
     ensures airport { P.airport_of port.new ≡ P.airport_of port.old }
-    ensures place { P.place port.new ≡ P.place port.old }
+    ensures fixed { P.fixed port.new ≡ P.fixed port.old }
 {
     let Ok(routes) = DeskRoutes::new(alloc) else {
         return Outcome::Memory;
@@ -52,20 +52,20 @@ pub(crate) fn session_by<P: DeskPort, A: Answerer<P>, S: Source, W: Sink>(
     source: &mut S,
     sink: &mut W,
 ) -> Outcome
-    ensures by { SessionBy (A.comes (P.place port.old) (P.airport_of port.old))
+    ensures by { SessionBy (A.comes (P.fixed port.old) (P.airport_of port.old))
         (P.airport_of port.old)
         (record { source = S.state source.old; sink = W.state sink.old; port = P.port port.old })
         (record { source = S.state source.new; sink = W.state sink.new; port = P.port port.new })
         result }
     ensures airport { P.airport_of port.new ≡ P.airport_of port.old }
-    ensures place { P.place port.new ≡ P.place port.old }
+    ensures fixed { P.fixed port.new ≡ P.fixed port.old }
 {
     let Ok(mut incoming) = Incoming::new(alloc) else {
         return Outcome::Memory;
     };
     for count in 0..MOST_REQUESTS {
-        let turned = take_turn(alloc, answerer, port, source, sink, &mut incoming);
-        match outcome_of(turned) {
+        let met = take_exchange(alloc, answerer, port, source, sink, &mut incoming);
+        match outcome_of(met) {
             None => {}
             Some(outcome) => return outcome,
         }
@@ -73,9 +73,9 @@ pub(crate) fn session_by<P: DeskPort, A: Answerer<P>, S: Source, W: Sink>(
     Outcome::Limit
 }
 
-/// What was met in one turn of a session, and what became of it.
+/// What was met in one exchange of a session, and what became of it.
 #[derive(Clone, Copy, Debug, PartialEq, Eq)]
-pub(crate) enum Turned {
+pub(crate) enum Exchange {
     /// A request was met, and served or not.
     Request {
         closes: bool,
@@ -95,16 +95,16 @@ pub(crate) enum Unserved {
     SinkFault,
 }
 
-// How a session ends after such a turn; none if it goes on.
-fn outcome_of(turned: Turned) -> Option<Outcome>
-    ensures is { result ≡ outcome_of_lem turned }
+// How a session ends after such an exchange; none if it goes on.
+fn outcome_of(met: Exchange) -> Option<Outcome>
+    ensures is { result ≡ outcome_of_lem met }
 {
-    match turned {
-        Turned::Request {
+    match met {
+        Exchange::Request {
             closes,
             served: Ok(()),
         } => if closes { Some(Outcome::Closed) } else { None },
-        Turned::Request {
+        Exchange::Request {
             closes: _,
             served: Err(why),
         } => Some(match why {
@@ -112,30 +112,30 @@ fn outcome_of(turned: Turned) -> Option<Outcome>
             Unserved::NoReply(NoReplyCause::Exhausted) => Outcome::Spent,
             Unserved::NoReply(NoReplyCause::Unread) => Outcome::Memory,
         }),
-        Turned::Refused(Ok(())) => Some(Outcome::Malformed),
-        Turned::Refused(Err(Failed)) => Some(Outcome::WriteFault),
-        Turned::AtEnd(StreamEnd::Ended) => Some(Outcome::Ended),
-        Turned::AtEnd(StreamEnd::Cut) => Some(Outcome::Cut),
-        Turned::SourceFault => Some(Outcome::ReadFault),
+        Exchange::Refused(Ok(())) => Some(Outcome::Malformed),
+        Exchange::Refused(Err(Failed)) => Some(Outcome::WriteFault),
+        Exchange::AtEnd(StreamEnd::Ended) => Some(Outcome::Ended),
+        Exchange::AtEnd(StreamEnd::Cut) => Some(Outcome::Cut),
+        Exchange::SourceFault => Some(Outcome::ReadFault),
     }
 }
 
 // Reads until a request has come, and serves it.
-fn take_turn<P: DeskPort, A: Answerer<P>, S: Source, W: Sink>(
+fn take_exchange<P: DeskPort, A: Answerer<P>, S: Source, W: Sink>(
     alloc: Global,
     answerer: &A,
     port: &mut P,
     source: &mut S,
     sink: &mut W,
     incoming: &mut Incoming,
-) -> Turned
-    ensures turn { TakesTurn (A.comes (P.place port.old) (P.airport_of port.old))
+) -> Exchange
+    ensures exchange { TakesExchange (A.comes (P.fixed port.old) (P.airport_of port.old))
         (P.airport_of port.old)
         (record { source = S.state source.old; sink = W.state sink.old; port = P.port port.old })
         (record { source = S.state source.new; sink = W.state sink.new; port = P.port port.new })
         incoming.old incoming.new result }
     ensures airport { P.airport_of port.new ≡ P.airport_of port.old }
-    ensures place { P.place port.new ≡ P.place port.old }
+    ensures fixed { P.fixed port.new ≡ P.fixed port.old }
 {
     'reading: loop {
         match incoming.front() {
@@ -143,13 +143,13 @@ fn take_turn<P: DeskPort, A: Answerer<P>, S: Source, W: Sink>(
                 let RequestParts { closes, length, .. } = request;
                 let served = serve_request(alloc, answerer, port, sink, &request);
                 incoming.consume(length);
-                return Turned::Request { closes, served };
+                return Exchange::Request { closes, served };
             }
-            Front::Malformed(why) => return Turned::Refused(sink.put(refusal_text(why))),
+            Front::Malformed(why) => return Exchange::Refused(sink.put(refusal_text(why))),
             Front::Partial => match take_more(source, incoming) {
                 More::Taken => {}
-                More::AtEnd => return Turned::AtEnd(incoming.end()),
-                More::Fault => return Turned::SourceFault,
+                More::AtEnd => return Exchange::AtEnd(incoming.end()),
+                More::Fault => return Exchange::SourceFault,
             },
         }
     }
@@ -166,10 +166,10 @@ fn serve_request<P: DeskPort, A: Answerer<P>, W: Sink>(
     ensures served { (request : Request)
         → ArePartsOf request parts.now
         → IsServed (P.airport_of port.old)
-        (A.comes (P.place port.old) (P.airport_of port.old) (P.port port.old) request)
+        (A.comes (P.fixed port.old) (P.airport_of port.old) (P.port port.old) request)
         (W.state sink.old) (W.state sink.new) result (P.port port.new) }
     ensures airport { P.airport_of port.new ≡ P.airport_of port.old }
-    ensures place { P.place port.new ≡ P.place port.old }
+    ensures fixed { P.fixed port.new ≡ P.fixed port.old }
 {
     match answerer.answer(alloc, port, parts) {
         Ok(reply) => match reply.put(sink) {

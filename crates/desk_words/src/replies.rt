@@ -17,7 +17,8 @@ use apron_rules::{Airport, AirportParts};
 use desk_asks::EntryKind;
 use http::StatusCode;
 use std::alloc::{AllocError, Global};
-use visit_book::{EditFault, PartRow, Visit};
+pub use visit_book::PartRow;
+use visit_book::{EditFault, Visit};
 
 /// The media type of a body that is JSON.
 pub const JSON: &str = "application/json";

@@ -185,17 +185,17 @@ module _ {In Out Fixed : Type 0} (states : EndStates In Out) (kind : SessionKind
   }
 
 -- the workers over the ports of the front and of the rest
-module _ {In Out L P Place : Type 0} (states : EndStates In Out) (state : L → ListenerState In Out) (port : P → PortState) (place : P → Place) (kind : P → SessionKind) (asked : ℕ) where
+module _ {In Out L P Fixed : Type 0} (states : EndStates In Out) (state : L → ListenerState In Out) (port : P → PortState) (fixed : P → Fixed) (kind : P → SessionKind) (asked : ℕ) where
   pub no_work : (ports : List P) (listeners : List L) → length ports ≡ length listeners → length listeners ≡ 0
-      → WorkAll states state port place kind asked ports listeners ports listeners Done
+      → WorkAll states state port fixed kind asked ports listeners ports listeners Done
   no_work [] [] same none = refl
   no_work ports (listener ∷ listeners) same none = absurd (omega arith)
   no_work (own ∷ ports) [] same none = absurd (omega arith)
 
   pub of_front : (front news rest others : List P) (first lefts more lasts : List L) (one end all : WorkEnd) → length front ≡ 1 → length first ≡ 1
-      → WorkEach states state port place kind asked front first news lefts one → WorkAll states state port place kind asked rest more others lasts end
+      → WorkEach states state port fixed kind asked front first news lefts one → WorkAll states state port fixed kind asked rest more others lasts end
       → all ≡ end_of (one ∷ end ∷ [])
-      → WorkAll states state port place kind asked (front ++ rest) (first ++ more) (news ++ others) (lefts ++ lasts) all
+      → WorkAll states state port fixed kind asked (front ++ rest) (first ++ more) (news ++ others) (lefts ++ lasts) all
   of_front (old ∷ []) (new ∷ []) rest others (listener ∷ []) (left ∷ []) more lasts one end all single only each work is = (one, end, each.0, work, is)
   of_front [] news rest others first lefts more lasts one end all single only each work is = absurd (omega arith)
   of_front (old ∷ other ∷ front) news rest others first lefts more lasts one end all single only each work is = absurd (omega arith)
@@ -267,7 +267,7 @@ module _ {In Out L Fixed : Type 0} (states : EndStates In Out) (state : L → Li
       → Over olds listeners news lefts end → Every (λ (port : ServedState Fixed). port.board ≡ board) news
   still_own [] [] [] [] end own work = tt
   still_own (old ∷ olds) (new ∷ news) (listener ∷ listeners) (left ∷ lefts) end own work =
-      (ap (λ (place : TurnBoardState Fixed × ℕ). place.0) work.2.1 ∙ own.0, still_own olds news listeners lefts work.1 own.1 work.3)
+      (ap (λ (fixed : TurnBoardState Fixed × ℕ). fixed.0) work.2.1 ∙ own.0, still_own olds news listeners lefts work.1 own.1 work.3)
   still_own [] news (listener ∷ listeners) lefts end own work = absurd work
   still_own [] (new ∷ news) [] lefts end own work = absurd work
   still_own [] [] [] (left ∷ lefts) end own work = absurd work
@@ -281,7 +281,7 @@ module _ {In Out L Fixed : Type 0} (states : EndStates In Out) (state : L → Li
   shares_back before less after [] [] [] [] end few cut work meets = ap (λ (seat : Held Fixed). seat.share) (meets ∙ cut)
   shares_back before less after (old ∷ olds) (new ∷ news) (listener ∷ listeners) (left ∷ lefts) end few cut work meets =
       let one : old.seat.share ≡ 1 = ap (λ (seat : Held Fixed). seat.share) cut.0 in
-      let same : new.seat.share ≡ old.seat.share = ap (λ (place : TurnBoardState Fixed × ℕ). place.1) work.2.1 in
+      let same : new.seat.share ≡ old.seat.share = ap (λ (fixed : TurnBoardState Fixed × ℕ). fixed.1) work.2.1 in
       let rest = shares_back (record before { share = before.share - 1 }) less meets.0 olds news listeners lefts work.1 (omega arith) cut.1 work.3 meets.1 in
       let added = meets.2.share in omega arith
   shares_back before less after [] news (listener ∷ listeners) lefts end few cut work meets = absurd work

@@ -169,11 +169,11 @@ module _ {In Out : Type 0} (states : EndStates In Out) {Fixed : Type 0} (kinds :
       → Serves states (kinds fixed) true (record { listener = before; port = port }) (record { listener = after; port = port }) []
   none_taken before after port none = record { served = refl; finishes = failed_finishing before after none }
 
--- the sessions over a port, by its place and its airport
-module _ {Place : Type 0} (asks : AirportParts → PortState → Ask → Given → PortState → Type 0) (feeds : Place → AirportParts → PortState → FeedAsk → FeedGiven → PortState → Type 0) where
-  abbrev pub kinds_at : Place × AirportParts → SessionKind
+-- the sessions over a port, by what is fixed of it and its airport
+module _ {Fixed : Type 0} (asks : AirportParts → PortState → Ask → Given → PortState → Type 0) (feeds : Fixed → AirportParts → PortState → FeedAsk → FeedGiven → PortState → Type 0) where
+  abbrev pub kinds_at : Fixed × AirportParts → SessionKind
   kinds_at at = fed_kind asks (feeds at.0) at.1
 
--- a place and an airport that are as they were
+-- what is fixed and an airport that are as they were
 pub same_at : {A B : Type 0} (a b : A) (c d : B) → a ≡ b → c ≡ d → ◌≡◌ {A = A × B} (a, c) (b, d)
 same_at a b c d first second = rw (first, second) refl

@@ -69,16 +69,16 @@ pub record WorkTogether {In Out Fixed : Type 0} (states : EndStates In Out) (kin
       → StaysAtRisk entry after.seat.calls
       → HasCallOf entry before.seat.calls ⊎ Any (TellsAtRisk entry) workers
 
--- `port` says what a port tells, `place` what no call changes of it, and `kind` of which kind its
+-- `port` says what a port tells, `fixed` what no call changes of it, and `kind` of which kind its
 -- sessions are
-module _ {In Out L P Place : Type 0} (states : EndStates In Out) (state : L → ListenerState In Out)
-    (port : P → PortState) (place : P → Place) (kind : P → SessionKind) (asked : ℕ) where
-  -- a worker served its listener over its port, which kept its place, and ended so
+module _ {In Out L P Fixed : Type 0} (states : EndStates In Out) (state : L → ListenerState In Out)
+    (port : P → PortState) (fixed : P → Fixed) (kind : P → SessionKind) (asked : ℕ) where
+  -- a worker served its listener over its port, which kept what is fixed of it, and ended so
   abbrev pub WorksOver : P → L → P → L → WorkEnd → Type 0
   WorksOver old listener new left end =
       Works states (kind old) asked (record { listener = state listener; port = port old })
       (record { listener = state left; port = port new }) end
-      × (place new ≡ place old)
+      × (fixed new ≡ fixed old)
 
   -- each worker did so, and all ended so
   abbrev pub WorkEach : List P → List L → List P → List L → WorkEnd → Type 0

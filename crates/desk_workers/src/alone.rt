@@ -68,11 +68,11 @@ impl<'a, M: DeskMachine> AlonePort<'a, M> {
 impl<'a, M: DeskMachine> DeskPort for AlonePort<'a, M> {
     ghost use Rattle.desk_http.specs.Alone.{AloneAsks, port_over};
 
-    type Place = M::Fixed;
+    type Fixed = M::Fixed;
 
     ghost airport_of = { λ a. M.airport (M.state a.machine).fixed };
 
-    ghost place = { λ a. (M.state a.machine).fixed };
+    ghost fixed = { λ a. (M.state a.machine).fixed };
 
     ghost port = { λ a. port_over a.first (M.state a.machine) };
 

@@ -203,10 +203,10 @@ pub trait Workplace {
         connections: u32,
     ) -> WorkEnd
         ensures works { Works states
-            (fed_kind P.asks (P.feeds (P.place port.old)) (P.airport_of port.old)) connections
+            (fed_kind P.asks (P.feeds (P.fixed port.old)) (P.airport_of port.old)) connections
             (record { listener = state self.old; port = P.port port.old })
             (record { listener = state self.new; port = P.port port.new }) result }
-        ensures place { P.place port.new ≡ P.place port.old };
+        ensures fixed { P.fixed port.new ≡ P.fixed port.old };
 }
 
 impl<L: Listener> Workplace for L {
@@ -239,8 +239,8 @@ fn work_first<P: FeedPort, W: Workplace, R: Wait>(
 ) -> WorkEnd
     requires port { length ports.old ≡ 1 }
     requires one { length listeners.old ≡ 1 }
-    ensures works { WorkEach W.states W.state P.port P.place
-        (λ port. fed_kind P.asks (P.feeds (P.place port)) (P.airport_of port)) connections
+    ensures works { WorkEach W.states W.state P.port P.fixed
+        (λ port. fed_kind P.asks (P.feeds (P.fixed port)) (P.airport_of port)) connections
         ports.old listeners.old ports.new listeners.new result }
 {
     listeners[0].work(rt, alloc, &mut ports[0], connections)
@@ -264,8 +264,8 @@ fn work_beside<
     requires port { length ports.old ≡ 1 }
     requires one { length listeners.old ≡ 1 }
     requires job { J.pre job.old }
-    ensures works { WorkEach W.states W.state P.port P.place
-        (λ port. fed_kind P.asks (P.feeds (P.place port)) (P.airport_of port)) connections
+    ensures works { WorkEach W.states W.state P.port P.fixed
+        (λ port. fed_kind P.asks (P.feeds (P.fixed port)) (P.airport_of port)) connections
         ports.old listeners.old ports.new listeners.new result.0 }
     ensures job { J.step job.old result.1 job.new }
 {
@@ -273,8 +273,8 @@ fn work_beside<
         rt,
         &mut ||
             requires { (length ports.now ≡ 1) × (length listeners.now ≡ 1) }
-            ensures works { WorkEach W.states W.state P.port P.place
-                (λ port. fed_kind P.asks (P.feeds (P.place port)) (P.airport_of port)) connections
+            ensures works { WorkEach W.states W.state P.port P.fixed
+                (λ port. fed_kind P.asks (P.feeds (P.fixed port)) (P.airport_of port)) connections
                 ports.entry.now listeners.entry.now ports.exit.now listeners.exit.now result }
         { work_first(rt, alloc, ports, listeners, connections) },
         job,
@@ -293,8 +293,8 @@ fn work_all<P: FeedPort + Send, W: Workplace + Send, R: Threads + Wait + Sync, J
 ) -> (WorkEnd, T)
     requires each { length ports.old ≡ length listeners.old }
     requires job { J.pre job.old }
-    ensures works { WorkAll W.states W.state P.port P.place
-        (λ port. fed_kind P.asks (P.feeds (P.place port)) (P.airport_of port)) connections
+    ensures works { WorkAll W.states W.state P.port P.fixed
+        (λ port. fed_kind P.asks (P.feeds (P.fixed port)) (P.airport_of port)) connections
         ports.old listeners.old ports.new listeners.new result.0 }
     ensures job { J.step job.old result.1 job.new }
 {
@@ -311,8 +311,8 @@ fn work_all<P: FeedPort + Send, W: Workplace + Send, R: Threads + Wait + Sync, J
         connections,
         &mut ||
             requires { IsSync R.row × (length others.now ≡ length rest.now) × J.pre job.now }
-            ensures works { WorkAll W.states W.state P.port P.place
-                (λ port. fed_kind P.asks (P.feeds (P.place port)) (P.airport_of port)) connections
+            ensures works { WorkAll W.states W.state P.port P.fixed
+                (λ port. fed_kind P.asks (P.feeds (P.fixed port)) (P.airport_of port)) connections
                 others.entry.now rest.entry.now others.exit.now rest.exit.now result.0 }
             ensures job { J.step job.entry.now result.1 job.exit.now }
         { work_all(rt, alloc, others, rest, connections, job) },

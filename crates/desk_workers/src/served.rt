@@ -83,11 +83,11 @@ impl<'s, R, M: DeskMachine> SeatPort<'s, R, M> {
 impl<'s, R: Wait, M: DeskMachine> DeskPort for SeatPort<'s, R, M> {
     ghost use Rattle.desk_workers.specs.Seats.{SeatTurn, board_and_share, fixed_of, port_of};
 
-    type Place = (TurnBoard<M>, u64);
+    type Fixed = (TurnBoard<M>, u64);
 
     ghost airport_of = { λ s. M.airport (fixed_of s) };
 
-    ghost place = { board_and_share };
+    ghost fixed = { board_and_share };
 
     ghost port = { port_of };
 
@@ -107,11 +107,11 @@ impl<'s, R: Wait, M: DeskMachine> DeskPort for SeatPort<'s, R, M> {
 impl<'s, R: Wait, M: FeedMachine> FeedPort for SeatPort<'s, R, M> {
     ghost use Rattle.desk_workers.specs.Feeds.{FeedTurns};
 
-    ghost feed_text = { λ place airport. M.feed_text place.0.start.fixed };
+    ghost feed_text = { λ fixed airport. M.feed_text fixed.0.start.fixed };
 
-    ghost feeds = { λ place. FeedTurns (M.feed_text place.0.start.fixed) };
+    ghost feeds = { λ fixed. FeedTurns (M.feed_text fixed.0.start.fixed) };
 
-    ghost feeds_take_turns = { λ place airport before after ask given turn. turn.0 };
+    ghost feeds_take_turns = { λ fixed airport before after ask given turn. turn.0 };
 
     fn feed(&mut self, alloc: Global, seen: u32, watch: &Name, after: u32) -> Acted {
         let feed = Feed {

@@ -29,13 +29,13 @@ pub fn work<P: FeedPort, L: Listener, R: Wait>(
     connections: u32,
 ) -> WorkEnd
     ensures works { Works (record { source = L.In.state; sink = L.Out.state })
-        (fed_kind P.asks (P.feeds (P.place port.old)) (P.airport_of port.old)) connections
+        (fed_kind P.asks (P.feeds (P.fixed port.old)) (P.airport_of port.old)) connections
         (record { listener = L.state listener.old; port = P.port port.old })
         (record { listener = L.state listener.new; port = P.port port.new }) result }
     ensures done { ¬ (Rose (L.state listener.old).faults (L.state listener.new).faults)
         → result ≡ WorkEnd.Done }
     ensures airport { P.airport_of port.new ≡ P.airport_of port.old }
-    ensures place { P.place port.new ≡ P.place port.old }
+    ensures fixed { P.fixed port.new ≡ P.fixed port.old }
 {
     for _served in 0..connections {
         if let Err(Failed) = serve_next(rt, alloc, port, listener) {
@@ -53,11 +53,11 @@ fn serve_next<P: FeedPort, L: Listener, R: Wait>(
     listener: &mut L,
 ) -> Result<(), Failed>
     ensures serves { ServesNext (record { source = L.In.state; sink = L.Out.state })
-        (fed_kind P.asks (P.feeds (P.place port.old)) (P.airport_of port.old))
+        (fed_kind P.asks (P.feeds (P.fixed port.old)) (P.airport_of port.old))
         (record { listener = L.state listener.old; port = P.port port.old })
         (record { listener = L.state listener.new; port = P.port port.new }) result }
     ensures airport { P.airport_of port.new ≡ P.airport_of port.old }
-    ensures place { P.place port.new ≡ P.place port.old }
+    ensures fixed { P.fixed port.new ≡ P.fixed port.old }
 {
     let (mut source, mut sink) = listener.accept(rt)?;
     let outcome = session_fed(alloc, port, &mut source, &mut sink);

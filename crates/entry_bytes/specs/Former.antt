@@ -55,8 +55,8 @@ abbrev pub former_text : Entry → List ℕ
 former_text entry = to_le_bytes w64 entry.call ++ former_command_text entry.command
 
 -- the bytes that spell the same entry now, or the fault of those that spelt it
-abbrev pub lift_entry : AirportParts → List ℕ → Result (List ℕ) EntryFault
-lift_entry airport bytes =
+abbrev pub convert_entry : AirportParts → List ℕ → Result (List ℕ) EntryFault
+convert_entry airport bytes =
     result_map_both entry_text (λ fault. fault) (decode_former_entry airport bytes)
 
 -- the command existed then: a message or a report is of no desk

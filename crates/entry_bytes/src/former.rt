@@ -3,7 +3,7 @@
 ghost use Rattle.std.specs.Prelude.{◌≡◌, ◌≢◌, ◌≤◌, IfOk, length, Err, Ok};
 ghost use Rattle.std.specs.Result.{result_map_both};
 ghost use Rattle.entry_bytes.specs.Entries.{decode_entry, entry_text, parse_command, read_with};
-ghost use Rattle.entry_bytes.specs.Former.{FormerEntryIsReadBack, FormerEntryIsSpelt, FormerFaultIsNear, decode_former_entry, former_fields_of, lift_entry, no_desk};
+ghost use Rattle.entry_bytes.specs.Former.{FormerEntryIsReadBack, FormerEntryIsSpelt, FormerFaultIsNear, decode_former_entry, former_fields_of, convert_entry, no_desk};
 ghost use Rattle.entry_bytes.specs.Gives.{GivesReading, ReadsEntry};
 ghost use Rattle.entry_bytes.specs.Laws.{most_bytes};
 
@@ -62,8 +62,12 @@ fn read_former(alloc: Global, airport: &Airport, bytes: &[u8]) -> Result<Entry, 
 /// the given bytes were read as before messages and reports named their desk; the desk of a message
 /// or report in them is `-`. `Err` gives the first fault from left to right if the bytes spelt no
 /// entry for the airport, or says that there is no memory.
-pub fn lift_entry(alloc: Global, airport: &Airport, bytes: &[u8]) -> Result<Listed<u8>, EntryFault>
-    ensures is { result ≢ Err EntryFault.Memory → result ≡ lift_entry airport.now bytes.now }
+pub fn convert_entry(
+    alloc: Global,
+    airport: &Airport,
+    bytes: &[u8],
+) -> Result<Listed<u8>, EntryFault>
+    ensures is { result ≢ Err EntryFault.Memory → result ≡ convert_entry airport.now bytes.now }
     ensures some { IfOk result (λ new. 1 ≤ length new) }
     ensures most { IfOk result (λ new. length new ≤ most_bytes) }
     ensures same { IfOk result

@@ -17,6 +17,6 @@ mod writing;
 pub use entries::{decode_entry, encode_entry};
 pub use faults::EntryFault;
 pub use former::{
-    former_entries_are_read_back, former_entries_are_spelt, former_faults_are_near, lift_entry,
+    convert_entry, former_entries_are_read_back, former_entries_are_spelt, former_faults_are_near,
 };
 pub use laws::{entries_are_read_back, entries_are_short, entries_are_spelt, faults_are_near};

@@ -1,8 +1,8 @@
 // What is wrong in an airport file.
 
-use crate::complaint::{FileLine, Told, Wrong};
+use crate::complaint::{Complaint, FileLine, Wrong};
 use crate::documents::{row_of_objects, row_over, row_with, rows_of};
-use crate::places::{Place, line_at, place_of};
+use crate::key_lines::{KeyLine, key_line_of, line_at};
 use crate::rules::{Rule, rule_named, rule_of};
 use airport_files::FileFault;
 use apron_base::{Memory, Name};
@@ -17,7 +17,7 @@ pub fn airport_fault(
     file: &str,
     text: &[u8],
     fault: &FileFault,
-) -> Result<Told, Memory> {
+) -> Result<Complaint, Memory> {
     match fault {
         FileFault::NotToml => not_toml(alloc, file, text),
         FileFault::MissingKey(key) => missing(alloc, file, text, rule_named(key.as_slice())),
@@ -28,7 +28,7 @@ pub fn airport_fault(
 }
 
 // Where the text is not TOML, and why.
-fn not_toml(alloc: Global, file: &str, text: &[u8]) -> Result<Told, Memory> {
+fn not_toml(alloc: Global, file: &str, text: &[u8]) -> Result<Complaint, Memory> {
     match std::str::from_utf8(text) {
         Ok(text) => match toml::table_from_str(alloc, text) {
             Ok(_) => Ok(None),
@@ -46,13 +46,13 @@ fn not_toml(alloc: Global, file: &str, text: &[u8]) -> Result<Told, Memory> {
     }
 }
 
-fn missing(alloc: Global, file: &str, text: &[u8], rule: Rule) -> Result<Told, Memory> {
-    let line = place_of(text, &rule).line;
+fn missing(alloc: Global, file: &str, text: &[u8], rule: Rule) -> Result<Complaint, Memory> {
+    let line = key_line_of(text, &rule).line;
     told(alloc, file, line, rule, Wrong::Missing(rule.wanted))
 }
 
-fn wrong(alloc: Global, file: &str, text: &[u8], rule: Rule) -> Result<Told, Memory> {
-    let Place { line, value } = place_of(text, &rule);
+fn wrong(alloc: Global, file: &str, text: &[u8], rule: Rule) -> Result<Complaint, Memory> {
+    let KeyLine { line, value } = key_line_of(text, &rule);
     let wrong = match value {
         Some(value) => Wrong::Value(value, rule.wanted),
         None => Wrong::Unshown(rule.wanted),
@@ -67,11 +67,11 @@ fn says(
     text: &[u8],
     found: Option<Rule>,
     what: &'static str,
-) -> Result<Told, Memory> {
+) -> Result<Complaint, Memory> {
     let Some(rule) = found else {
         return Ok(None);
     };
-    let Place { line, value } = place_of(text, &rule);
+    let KeyLine { line, value } = key_line_of(text, &rule);
     let wrong = Wrong::Says(value.unwrap_or(b""), what);
     told(alloc, file, line, rule, wrong)
 }
@@ -82,7 +82,7 @@ fn told(
     line: u64,
     rule: Rule,
     wrong: Wrong<'_>,
-) -> Result<Told, Memory> {
+) -> Result<Complaint, Memory> {
     let at = FileLine { file, line };
     Ok(Some(format!(in alloc; "{at}: {rule}: {wrong}")?))
 }
@@ -93,7 +93,7 @@ fn of_airport(
     file: &str,
     text: &[u8],
     fault: &AirportFault,
-) -> Result<Told, Memory> {
+) -> Result<Complaint, Memory> {
     let Ok(document) = toml::table_from_slice(alloc, text) else {
         return Ok(None);
     };
@@ -117,7 +117,7 @@ fn passed(
     text: &[u8],
     document: &Table,
     limit: Limit,
-) -> Result<Told, Memory> {
+) -> Result<Complaint, Memory> {
     let Some(rule) = over(document, limit) else {
         return Ok(None);
     };
@@ -136,7 +136,7 @@ const BAD_HALF: &str =
     "can't have this half: it is a half itself, is on another frontage, or has two halves already";
 
 // An array with more tables, or fewer, than may be.
-fn counted(alloc: Global, file: &str, document: &Table, rule: Rule) -> Result<Told, Memory> {
+fn counted(alloc: Global, file: &str, document: &Table, rule: Rule) -> Result<Complaint, Memory> {
     let count = rows_of(document, rule.section).len();
     let wrong = Wrong::Count(count, rule.wanted);
     Ok(Some(format!(in alloc; "{file}: {rule}: {wrong}")?))

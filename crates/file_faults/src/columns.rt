@@ -1,6 +1,6 @@
 // The columns of type files and season files, and what a field has to be.
 
-use crate::complaint::{FileLine, Told, Wanted, Wrong};
+use crate::complaint::{Complaint, FileLine, Wanted, Wrong};
 use crate::records::FoundRecord;
 use apron_base::{Memory, number_of};
 use std::alloc::Global;
@@ -19,7 +19,7 @@ pub(crate) fn wrong_field(
     file: &str,
     record: &FoundRecord,
     column: Column,
-) -> Result<Told, Memory> {
+) -> Result<Complaint, Memory> {
     let wrong = Wrong::Value(record.field(column.place), column.wanted);
     told_of_field(alloc, file, record, column, wrong)
 }
@@ -31,7 +31,7 @@ pub(crate) fn said_of_field(
     record: &FoundRecord,
     column: Column,
     what: &'static str,
-) -> Result<Told, Memory> {
+) -> Result<Complaint, Memory> {
     let wrong = Wrong::Says(record.field(column.place), what);
     told_of_field(alloc, file, record, column, wrong)
 }
@@ -42,7 +42,7 @@ fn told_of_field(
     record: &FoundRecord,
     column: Column,
     wrong: Wrong<'_>,
-) -> Result<Told, Memory> {
+) -> Result<Complaint, Memory> {
     let at = FileLine {
         file,
         line: record.line,
@@ -57,7 +57,7 @@ pub(crate) fn wrong_count(
     file: &str,
     record: &FoundRecord,
     wanted: usize,
-) -> Result<Told, Memory> {
+) -> Result<Complaint, Memory> {
     let at = FileLine {
         file,
         line: record.line,
@@ -72,7 +72,7 @@ pub(crate) fn wrong_header(
     file: &str,
     record: Option<FoundRecord>,
     header: &'static str,
-) -> Result<Told, Memory> {
+) -> Result<Complaint, Memory> {
     let line = match record {
         Some(record) => record.line,
         None => 1,

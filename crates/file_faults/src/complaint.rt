@@ -3,7 +3,7 @@
 use std::fmt;
 
 /// What is told of a file: a line without its end, or `None` if nothing is known.
-pub type Told = Option<String>;
+pub type Complaint = Option<String>;
 
 /// The most bytes of a value that are shown.
 const MOST_SHOWN: usize = 40;

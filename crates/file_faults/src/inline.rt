@@ -1,6 +1,6 @@
 // Where a key of a table is that is written within an array, as `stand = [{ name = "N1" }]`.
 
-use crate::places::Place;
+use crate::key_lines::KeyLine;
 use crate::rules::Rule;
 
 // How far the walk has come.
@@ -24,7 +24,12 @@ struct Walk<'a> {
 }
 
 /// Where the key of this rule is in the array that begins at this place of the text, on this line.
-pub(crate) fn inline_place<'a>(text: &'a [u8], begin: usize, line: u64, rule: &Rule) -> Place<'a> {
+pub(crate) fn inline_key_line<'a>(
+    text: &'a [u8],
+    begin: usize,
+    line: u64,
+    rule: &Rule,
+) -> KeyLine<'a> {
     let mut walk = Walk {
         text,
         word: rule.word.as_bytes(),
@@ -40,16 +45,16 @@ pub(crate) fn inline_place<'a>(text: &'a [u8], begin: usize, line: u64, rule: &R
         is_comment: false,
     };
     for (i, byte) in text.iter().enumerate().skip(begin) {
-        if let Some(place) = walk.pass(i, *byte) {
-            return place;
+        if let Some(found) = walk.pass(i, *byte) {
+            return found;
         }
     }
-    Place { line, value: None }
+    KeyLine { line, value: None }
 }
 
 impl<'a> Walk<'a> {
-    // Comes to a byte. The place of the key is known at the end of its value, or of its table.
-    fn pass(&mut self, i: usize, byte: u8) -> Option<Place<'a>> {
+    // Comes to a byte. The line of the key is known at the end of its value, or of its table.
+    fn pass(&mut self, i: usize, byte: u8) -> Option<KeyLine<'a>> {
         if byte == b'\n' {
             self.line = self.line.saturating_add(1);
             self.is_comment = false;
@@ -62,16 +67,16 @@ impl<'a> Walk<'a> {
     }
 
     // The same of a byte that is neither in quotes nor in a comment.
-    fn pass_sign(&mut self, i: usize, byte: u8) -> Option<Place<'a>> {
+    fn pass_sign(&mut self, i: usize, byte: u8) -> Option<KeyLine<'a>> {
         match byte {
             b'#' => self.is_comment = true,
             b'[' => self.brackets = self.brackets.saturating_add(1),
             b']' => self.brackets = self.brackets.saturating_sub(1),
             b'{' => self.begin_table(i),
-            b'}' if self.is_inside => return Some(self.place_before(i)),
+            b'}' if self.is_inside => return Some(self.key_line_before(i)),
             b',' if self.is_inside && self.brackets <= 1 => {
                 if self.found.is_some() {
-                    return Some(self.place_before(i));
+                    return Some(self.key_line_before(i));
                 }
                 self.token = i.saturating_add(1);
             }
@@ -97,14 +102,14 @@ impl<'a> Walk<'a> {
         }
     }
 
-    // The place of the key, whose value ends before this byte; that of its table without the key.
-    fn place_before(&self, i: usize) -> Place<'a> {
+    // The line of the key, whose value ends before this byte; that of its table without the key.
+    fn key_line_before(&self, i: usize) -> KeyLine<'a> {
         match self.found {
-            Some((line, start)) => Place {
+            Some((line, start)) => KeyLine {
                 line,
                 value: Some(self.text.get(start..i).unwrap_or(b"").trim_ascii()),
             },
-            None => Place {
+            None => KeyLine {
                 line: self.header,
                 value: None,
             },

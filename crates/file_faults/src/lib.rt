@@ -8,14 +8,14 @@ mod complaint;
 mod dates;
 mod documents;
 mod inline;
-mod places;
+mod key_lines;
 mod records;
 mod rules;
 mod season;
 mod types;
 
 pub use airport::airport_fault;
-pub use complaint::Told;
+pub use complaint::Complaint;
 pub use dates::dates_of_season;
 pub use season::{season_fault, season_row_there};
 pub use types::types_fault;

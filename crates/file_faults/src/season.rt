@@ -1,7 +1,7 @@
 // What is wrong in a season file, and with what the plan has its visits.
 
 use crate::columns::{Column, is_within, number, wrong_count, wrong_field, wrong_header};
-use crate::complaint::{FileLine, Shown, Told, Wanted};
+use crate::complaint::{Complaint, FileLine, Shown, Wanted};
 use crate::records::{FoundRecord, record_at, record_named};
 use apron_base::{Memory, Name};
 use apron_rules::Airport;
@@ -22,7 +22,7 @@ pub fn season_fault(
     file: &str,
     text: &[u8],
     number: u64,
-) -> Result<Told, Memory> {
+) -> Result<Complaint, Memory> {
     let found = record_at(alloc, text, number)?;
     if number == 1 {
         return wrong_header(alloc, file, found, HEADER);
@@ -137,7 +137,7 @@ pub fn season_row_there(
     text: &[u8],
     number: u64,
     kept: &[u8],
-) -> Result<Told, Memory> {
+) -> Result<Complaint, Memory> {
     let Some(record) = record_at(alloc, text, number)? else {
         return Ok(None);
     };

@@ -3,7 +3,7 @@
 use crate::columns::{
     Column, is_short_name, is_within, number, said_of_field, wrong_count, wrong_field, wrong_header,
 };
-use crate::complaint::{Told, Wanted};
+use crate::complaint::{Complaint, Wanted};
 use crate::records::{FoundRecord, record_at, record_named};
 use airport_files::FileFault;
 use apron_base::Memory;
@@ -52,7 +52,7 @@ pub fn types_fault(
     file: &str,
     text: &[u8],
     fault: &FileFault,
-) -> Result<Told, Memory> {
+) -> Result<Complaint, Memory> {
     match fault {
         FileFault::BadRow(number) => bad_row(alloc, file, text, u64::from(*number)),
         FileFault::Airport(fault) => of_airport(alloc, file, text, fault),
@@ -61,7 +61,7 @@ pub fn types_fault(
 }
 
 // What is wrong with the record of this number.
-fn bad_row(alloc: Global, file: &str, text: &[u8], number: u64) -> Result<Told, Memory> {
+fn bad_row(alloc: Global, file: &str, text: &[u8], number: u64) -> Result<Complaint, Memory> {
     let found = record_at(alloc, text, number)?;
     if number == 1 {
         return wrong_header(alloc, file, found, HEADERS);
@@ -101,7 +101,7 @@ fn of_airport(
     file: &str,
     text: &[u8],
     fault: &AirportFault,
-) -> Result<Told, Memory> {
+) -> Result<Complaint, Memory> {
     match fault {
         AirportFault::DuplicateName(name) => match record_named(alloc, text, name.bytes(), 1)? {
             Some(record) => said_of_field(
@@ -132,7 +132,7 @@ fn of_type(
     text: &[u8],
     name: &[u8],
     column: Column,
-) -> Result<Told, Memory> {
+) -> Result<Complaint, Memory> {
     match record_named(alloc, text, name, 0)? {
         Some(record) => wrong_field(alloc, file, &record, column),
         None => Ok(None),
@@ -149,7 +149,7 @@ fn wrong_fold(record: &FoundRecord) -> Column {
 }
 
 // The first type whose least minutes are out of their range.
-fn least_over(alloc: Global, file: &str, text: &[u8]) -> Result<Told, Memory> {
+fn least_over(alloc: Global, file: &str, text: &[u8]) -> Result<Complaint, Memory> {
     for number in 2..=MAX_TYPES as u64 + 1 {
         let Some(record) = record_at(alloc, text, number)? else {
             return Ok(None);

@@ -10,7 +10,7 @@ use Rattle.desk_asks.specs.declared.asks.Entry.{Entry}
 use Rattle.desk_words.specs.declared.replies.Reply.{Reply}
 use Rattle.history_core.specs.Answer.{Replies, added_entries, changes}
 use Rattle.history_core.specs.History.{replay}
-use Rattle.history_core.specs.Steps.{Stepped, TakenAs, accepted, ahead, denied, edit, full, name, refused, repeated, stepped_reply}
+use Rattle.history_core.specs.Acceptance.{Stepped, TakenAs, accepted, ahead, denied, edit, full, name, refused, repeated, stepped_reply}
 use Rattle.history_core.proofs.Replay.{after-push, command_version}
 use Rattle.plan_core.specs.PlanState.{empty_plan}
 use Rattle.generated_day.specs.Days.{Day, IsAsked, count_bumped, is_accepted, plan_of}

@@ -22,7 +22,7 @@ use Rattle.desk_asks.specs.declared.asks.Command.TheVariants.{AddVisit, Commit, 
 use Rattle.desk_asks.specs.declared.asks.Entry.{Entry}
 use Rattle.history_core.specs.History.{AreTakenFrom, IsLegal, after_entries, replay}
 use Rattle.history_core.specs.Laws.{HasAdded, HasEntry, HasVisit, IsAddedBy}
-use Rattle.history_core.specs.Steps.{IsTaken, after_command}
+use Rattle.history_core.specs.Acceptance.{IsTaken, after_command}
 use Rattle.history_core.proofs.Happenings.{cancel_keeps, message_keeps, report_keeps}
 use Rattle.history_core.proofs.Kept.{all_last, edits_leave, found_has}
 use Rattle.history_core.proofs.KeptVisits.{AreKept, IsKept, all_kept}

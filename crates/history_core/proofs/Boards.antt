@@ -13,7 +13,7 @@ use Rattle.entry_bytes.specs.Entries.{decode_entry, entry_text}
 use Rattle.history_core.specs.Board.{BoardHeld, IsBoard}
 use Rattle.history_core.specs.Bumped.{last_bumped}
 use Rattle.history_core.specs.History.{IsLegal, call_limit, call_of, replay}
-use Rattle.history_core.specs.Steps.{TakenAs, accepted, after_command}
+use Rattle.history_core.specs.Acceptance.{TakenAs, accepted, after_command}
 use Rattle.history_core.proofs.Keepers.{kept_added, kept_failed, kept_ready}
 use Rattle.history_core.proofs.Legal.{legal_counted}
 use Rattle.history_core.proofs.Replay.{after-push, replay-airport, taken_numbered, taken_push}

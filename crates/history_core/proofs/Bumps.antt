@@ -35,7 +35,7 @@ use Rattle.desk_asks.specs.declared.asks.Entry.{Entry}
 use Rattle.desk_words.specs.declared.replies.Denial.{Denial}
 use Rattle.history_core.specs.History.{AreTakenFrom, IsLegal, after_entries, replay}
 use Rattle.history_core.specs.Bumped.{bumped_in, last_bumped}
-use Rattle.history_core.specs.Steps.{IsTaken, after_command, cancellable, cancelled_if, made_told, visit_after_message, visit_after_report}
+use Rattle.history_core.specs.Acceptance.{IsTaken, after_command, cancellable, cancelled_if, made_told, visit_after_message, visit_after_report}
 use Rattle.history_core.proofs.Happenings.{MayChange, message_changes, report_changes}
 use Rattle.history_core.proofs.Kept.{all_last, edits_keep, found_has, put_one_has, with_has}
 use Rattle.history_core.proofs.Replay.{command_numbered, command_version, commits}

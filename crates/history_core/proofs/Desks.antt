@@ -9,7 +9,7 @@ use Rattle.desk_asks.specs.declared.asks.Command.TheVariants.{AddVisit, Commit, 
 use Rattle.desk_asks.specs.declared.asks.Entry.{Entry}
 use Rattle.history_core.specs.History.{AreTakenFrom, IsLegal, after_entries, call_limit, call_of, replay}
 use Rattle.history_core.specs.Laws.{without_desk, without_desks}
-use Rattle.history_core.specs.Steps.{TakenAs, accepted, after_command}
+use Rattle.history_core.specs.Acceptance.{TakenAs, accepted, after_command}
 
 -- a command does the same without a desk
 same_after : (plan : PlanState) (command : Command) → after_command plan (without_desk command) ≡ after_command plan command

@@ -15,7 +15,7 @@ use Rattle.desk_asks.specs.declared.asks.Entry.{Entry}
 use Rattle.history_core.specs.History.{AreTakenFrom, IsLegal, after_entries, replay}
 use Rattle.history_core.specs.Laws.{HasCommit, HasEntry, IsCommitOf}
 use Rattle.desk_words.specs.declared.replies.Denial.{Denial}
-use Rattle.history_core.specs.Steps.{IsTaken, after_command, cancellable, cancelled_if}
+use Rattle.history_core.specs.Acceptance.{IsTaken, after_command, cancellable, cancelled_if}
 use Rattle.history_core.proofs.Replay.{Commits, command_version, commits}
 
 module _ (desk : List ℕ) (number : ℕ) where

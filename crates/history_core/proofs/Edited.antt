@@ -21,7 +21,7 @@ use Rattle.desk_asks.specs.declared.asks.Command.TheVariants.{AddVisit, Commit, 
 use Rattle.desk_asks.specs.declared.asks.Entry.{Entry}
 use Rattle.history_core.specs.History.{AreTakenFrom, IsLegal, after_entries, replay}
 use Rattle.history_core.specs.Laws.{edits_visit as edits_this, last_edit}
-use Rattle.history_core.specs.Steps.{IsTaken, after_command}
+use Rattle.history_core.specs.Acceptance.{IsTaken, after_command}
 use Rattle.plan_core.proofs.ByNumber.{found_number}
 use Rattle.plan_core.proofs.Changed.{Follows, edits_follow}
 use Rattle.history_core.proofs.Happenings.{cancel_keeps, message_keeps, report_keeps}

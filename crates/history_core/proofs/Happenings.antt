@@ -37,7 +37,7 @@ use Rattle.desk_asks.specs.declared.asks.Command.TheVariants.{Cancel}
 use Rattle.desk_asks.specs.declared.asks.DeskReport.{DeskReport}
 use Rattle.desk_words.specs.declared.replies.Denial.{Denial}
 use Rattle.desk_words.specs.declared.replies.Denial.TheVariants as denial
-use Rattle.history_core.specs.Steps.{after_command, cancellable, cancelled_if, denial_of, visit_after_message, visit_after_report}
+use Rattle.history_core.specs.Acceptance.{after_command, cancellable, cancelled_if, denial_of, visit_after_message, visit_after_report}
 use Rattle.history_core.proofs.KeptVisits.{AreKept, IsKept, all_themselves, all_twice, kept_put, kept_with}
 
 -- settling keeps each visit

@@ -17,7 +17,7 @@ use Rattle.desk_asks.specs.declared.asks.Command.{Command}
 use Rattle.desk_asks.specs.declared.asks.Command.TheVariants.{AddVisit, Commit, Message, Report, Cancel}
 use Rattle.desk_asks.specs.declared.asks.Entry.{Entry}
 use Rattle.desk_words.specs.declared.replies.Denial.{Denial}
-use Rattle.history_core.specs.Steps.{IsTaken, after_command, cancellable, cancelled_if, committed_if, visit_after_message, visit_after_report}
+use Rattle.history_core.specs.Acceptance.{IsTaken, after_command, cancellable, cancelled_if, committed_if, visit_after_message, visit_after_report}
 use Rattle.history_core.specs.History.{AreTakenFrom, IsLegal, IsSoundPlan, after_entries, call_limit, call_of, replay}
 use Rattle.history_core.specs.Laws.{HasEntry}
 use Rattle.history_core.proofs.Cancels.{cancelled_sound}

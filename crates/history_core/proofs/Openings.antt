@@ -18,7 +18,7 @@ use Rattle.history_core.specs.Board.{BoardHeld, IsBoard, Spells, entry_texts}
 use Rattle.history_core.specs.Bumped.{bumped_in, last_bumped}
 use Rattle.history_core.specs.History.{AreTakenFrom, IsLegal, after_entries, call_limit, call_of, replay}
 use Rattle.history_core.specs.Opening.{CannotOpen, IsNotNext, IsOpening, IsReplayed, OpeningHeld, next_from, not_read}
-use Rattle.history_core.specs.Steps.{IsTaken, TakenAs, accepted, after_command, made_told}
+use Rattle.history_core.specs.Acceptance.{IsTaken, TakenAs, accepted, after_command, made_told}
 use Rattle.history_core.specs.Taking.{IsAnswered}
 use Rattle.history_core.proofs.Boards.{legal_pushed, plan_numbered, plan_version}
 use Rattle.history_core.proofs.Bumps.{told_bumped}

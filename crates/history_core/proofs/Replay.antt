@@ -20,7 +20,7 @@ use Rattle.desk_asks.specs.declared.asks.Command.{Command}
 use Rattle.desk_asks.specs.declared.asks.Command.TheVariants.{AddVisit, Commit, Message, Report, Cancel}
 use Rattle.desk_asks.specs.declared.asks.Entry.{Entry}
 use Rattle.desk_words.specs.declared.replies.Denial.{Denial}
-use Rattle.history_core.specs.Steps.{IsTaken, TakenAs, accepted, after_command, cancellable, cancelled_if, committed_if}
+use Rattle.history_core.specs.Acceptance.{IsTaken, TakenAs, accepted, after_command, cancellable, cancelled_if, committed_if}
 use Rattle.history_core.specs.History.{AreTakenFrom, after_entries, replay}
 use Rattle.history_core.proofs.Happenings.{cancel_keeps, message_keeps, report_keeps}
 use Rattle.history_core.proofs.KeptVisits.{kept_numbered}

@@ -24,7 +24,7 @@ use Rattle.desk_asks.specs.declared.asks.DeskReport.{DeskReport}
 use Rattle.desk_words.specs.declared.replies.Denial.{Denial}
 use Rattle.desk_words.specs.declared.replies.ReplyBody.{ReplyBody}
 use Rattle.desk_words.specs.declared.replies.ReplyBody.TheVariants.{Added, Committed, Denied, Full, OtherName, Edit as Refused}
-use Rattle.history_core.specs.Steps.{HasPlace, IsNew, IsTaken, Stepped, TakenAs, TakesEntry, accepted, ahead, committed_if, cancellable, denied, edit, full, most_entries, name, refused, repeated, reply_at, visit_after_report}
+use Rattle.history_core.specs.Acceptance.{CanGrowBy, IsNew, IsTaken, Stepped, TakenAs, TakesEntry, accepted, ahead, committed_if, cancellable, denied, edit, full, most_entries, name, refused, repeated, reply_at, visit_after_report}
 use Rattle.history_core.specs.declared.taking.Taken.TheVariants.{Accepted}
 use Rattle.history_core.specs.Taking.{ComesTo, IsAnswered, IsChangeOf}
 use Rattle.history_core.proofs.NewVisits.{AreDecided, new_decided}
@@ -44,7 +44,7 @@ rebased_makes plan draft change numbered installable rebased = record {
 
 -- a plan has a place for a command, or it has none
 abbrev IsPlaced : PlanState → ℕ → Command → Type 0
-IsPlaced plan entries command = HasPlace plan entries command ⊎ ¬ (HasPlace plan entries command)
+IsPlaced plan entries command = CanGrowBy plan entries command ⊎ ¬ (CanGrowBy plan entries command)
 
 pub entry_placed : (entries : ℕ) → TakesEntry entries ⊎ ¬ (TakesEntry entries)
 entry_placed entries = elim (cases_lt entries most_entries) [ inl below ↦ inl below | inr above ↦ inr (λ below. absurd (omega (arith, below, above))) ]
@@ -124,12 +124,12 @@ some_step plan entries (Cancel number) = cancel_step plan entries number (cancel
 
 -- and only one
 only_full : (plan : PlanState) (entries : ℕ) (command : Command) (taken : IsTaken plan command) (place : IsPlaced plan entries command)
-    → ¬ (HasPlace plan entries command) → full ≡ (placed_step plan entries command taken place).0
+    → ¬ (CanGrowBy plan entries command) → full ≡ (placed_step plan entries command taken place).0
 only_full plan entries command taken (inl has) none = absurd (none has)
 only_full plan entries command taken (inr none) _ = refl
 
 only_accepted : (plan : PlanState) (entries : ℕ) (command : Command) (taken : IsTaken plan command) (place : IsPlaced plan entries command)
-    → HasPlace plan entries command → accepted ≡ (placed_step plan entries command taken place).0
+    → CanGrowBy plan entries command → accepted ≡ (placed_step plan entries command taken place).0
 only_accepted plan entries command taken (inl has) _ = refl
 only_accepted plan entries command taken (inr none) has = absurd (none has)
 

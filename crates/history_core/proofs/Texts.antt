@@ -18,7 +18,7 @@ use Rattle.history_core.specs.Answer.{ActsAs, GivesText, Sought, TextOf, acted_o
 use Rattle.history_core.specs.History.{IsLegal, replay}
 use Rattle.history_core.specs.declared.ask_fault.AskFault.{AskFault}
 use Rattle.history_core.specs.declared.ask_fault.AskFault.TheVariants as unanswered
-use Rattle.history_core.specs.Steps.{Stepped, TakenAs, accepted, ahead, full, refused, repeated, reply_at, stepped_reply}
+use Rattle.history_core.specs.Acceptance.{Stepped, TakenAs, accepted, ahead, full, refused, repeated, reply_at, stepped_reply}
 use Rattle.history_core.specs.Taking.{IsAnswered}
 use Rattle.history_core.proofs.Added.{added_new}
 use Rattle.history_core.proofs.Legal.{front_legal}

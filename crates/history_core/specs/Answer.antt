@@ -23,7 +23,7 @@ use Rattle.plan_lists.specs.Unplaced.{unplaced_parts}
 use Rattle.wall_chart.specs.Chart.{chart_text}
 use Rattle.history_core.specs.declared.ask_fault.AskFault.{AskFault}
 use Rattle.history_core.specs.declared.ask_fault.AskFault.TheVariants as unanswered
-use Rattle.history_core.specs.Steps.{Stepped, TakenAs, accepted, reply_at, stepped_reply}
+use Rattle.history_core.specs.Acceptance.{Stepped, TakenAs, accepted, reply_at, stepped_reply}
 use Rattle.history_core.specs.History.{IsLegal, entry_at, replay}
 
 -- what an ask comes to at a plan: a command that may change it, or what a reply says of the plan as

@@ -1,14 +1,18 @@
 -- A board as contracts see it, and what its keeper exposes.
 use Rattle.std.specs.Prelude.{◌≡◌, ◌≤◌, ℕ, List, map, length, IfSome, None, Ok}
+use Rattle.apron_base.specs.Counts.{Counts}
 use Rattle.apron_base.specs.Histories.{Rises}
 use Rattle.apron_base.specs.Keeper.{KeeperState, with_last}
 use Rattle.apron_base.specs.declared.numbers.PartId.{PartId}
-use Rattle.apron_base.specs.Machine.{MachineState}
+use Rattle.apron_base.specs.Machine.{MachineState, history_at_risk_of, is_fault}
+use Rattle.apron_base.specs.declared.outside.Acted.{Acted}
 use Rattle.apron_rules.specs.declared.parts.AirportParts.{AirportParts}
 use Rattle.plan_core.specs.PlanState.{PlanState}
+use Rattle.desk_asks.specs.declared.asks.Ask.{Ask}
 use Rattle.desk_asks.specs.declared.asks.Entry.{Entry}
 use Rattle.entry_bytes.specs.Entries.{decode_entry, entry_text}
-use Rattle.history_core.specs.AtRisk.{read_entry_at_risk}
+use Rattle.history_core.specs.Answer.{ActsAs, IsTold, ask_outcome}
+use Rattle.history_core.specs.AtRisk.{LeavesAtRisk, read_entry_at_risk}
 use Rattle.history_core.specs.Bumped.{last_bumped}
 use Rattle.history_core.specs.History.{IsLegal, call_limit, call_of, replay}
 
@@ -69,3 +73,18 @@ machine_state tells board = record {
   next = board.next;
   faults = (tells board.keeper).faults;
 }
+
+-- What an ask of this call number does to a board, by what its keeper exposes: it is answered at
+-- the board's history, which was legal and still is. The keeper failed exactly if the answer says
+-- so, and then the entry that was asked for may be at risk. A question leaves the keeper as it is.
+pub record AsksBoard {K : Type 0} (tells : K → KeeperState) (before after : BoardHeld K) (call : ℕ)
+    (ask : Ask) (acted : Acted) : Type 0 where
+  pub acts : ActsAs before.airport before.history call ask acted after.history
+  pub airport : after.airport ≡ before.airport
+  pub found : IsLegal before.airport before.history
+  pub legal : IsLegal after.airport after.history
+  pub faults : Counts (is_fault acted) (tells before.keeper).faults (tells after.keeper).faults
+  pub at_risk : LeavesAtRisk (history_at_risk_of (machine_state tells before)) call ask.what
+      (is_fault acted) (history_at_risk_of (machine_state tells after))
+  pub question : IsTold (ask_outcome (replay before.airport before.history) before.history ask)
+      → after.keeper ≡ before.keeper

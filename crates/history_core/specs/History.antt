@@ -10,7 +10,7 @@ use Rattle.desk_asks.specs.declared.asks.Entry.{Entry}
 use Rattle.desk_asks.specs.declared.asks.What.{What}
 use Rattle.desk_asks.specs.declared.asks.What.TheVariants.{Change, Plan as AskPlan, Chart as AskChart, Day as AskDay}
 use Rattle.desk_asks.specs.declared.asks.Ask.{Ask}
-use Rattle.history_core.specs.Steps.{TakenAs, accepted, after_command}
+use Rattle.history_core.specs.Acceptance.{TakenAs, accepted, after_command}
 
 -- the number of the call that added the entry
 abbrev pub call_of : Entry → ℕ

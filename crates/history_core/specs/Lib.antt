@@ -1,4 +1,4 @@
-pub mod Steps
+pub mod Acceptance
 pub mod History
 pub mod Answer
 pub mod Taking

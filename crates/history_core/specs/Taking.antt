@@ -5,7 +5,7 @@ use Rattle.desk_asks.specs.declared.asks.Command.{Command}
 use Rattle.desk_words.specs.declared.replies.Reply.{Reply}
 use Rattle.history_core.specs.declared.taking.Taken.{Taken}
 use Rattle.history_core.specs.declared.taking.Taken.TheVariants.{Accepted, Answered}
-use Rattle.history_core.specs.Steps.{Stepped, TakenAs, accepted, after_command, stepped_reply}
+use Rattle.history_core.specs.Acceptance.{Stepped, TakenAs, accepted, after_command, stepped_reply}
 
 -- the change makes of the plan what the command makes of it
 pub record IsChangeOf (plan : PlanState) (command : Command) (change : ChangeState) : Type 0 where

@@ -6,12 +6,12 @@ ghost use Rattle.apron_base.specs.Histories.{Rises};
 ghost use Rattle.apron_base.specs.Machine.{history_at_risk_of, is_fault};
 ghost use Rattle.desk_asks.specs.Commands.{IsCommandOf};
 ghost use Rattle.desk_words.specs.Replies.{IsTellable};
-ghost use Rattle.history_core.specs.Steps.{TakenAs, accepted, stepped_reply};
+ghost use Rattle.history_core.specs.Acceptance.{TakenAs, accepted, stepped_reply};
 ghost use Rattle.history_core.specs.History.{IsAskOf, IsLegal, call_limit, call_of, replay};
 ghost use Rattle.history_core.specs.Bumped.{last_bumped};
-ghost use Rattle.history_core.specs.Answer.{ActsAs, GivesText, IsTold, acted_of, ask_outcome, changes, is_keeper_fault, told, visit_told};
+ghost use Rattle.history_core.specs.Answer.{GivesText, IsTold, acted_of, ask_outcome, changes, is_keeper_fault, told, visit_told};
 ghost use Rattle.history_core.specs.AtRisk.{LeavesAtRisk};
-ghost use Rattle.history_core.specs.Board.{IsKeeperOf, entry_texts, machine_state};
+ghost use Rattle.history_core.specs.Board.{AsksBoard, IsKeeperOf, entry_texts, machine_state};
 ghost use Rattle.history_core.specs.Opening.{CannotOpen, OpensBoard};
 ghost use Rattle.history_core.specs.Taking.{IsChangeOf};
 
@@ -148,20 +148,9 @@ impl<'a, K: Keeper> Board<'a, K> {
         requires valid { IsAskOf self.old.airport ask.now }
         requires next { self.old.next ≤ call }
         requires last { call < call_limit }
-        ensures acts { ActsAs self.old.airport self.old.history call ask.now
-            result self.new.history }
-        ensures airport { self.new.airport ≡ self.old.airport }
+        ensures asks { AsksBoard K.state self.old self.new call ask.now result }
         ensures next { self.new.next ≡ call + 1 }
         ensures numbers { Rises call_of 1 self.new.next self.new.history }
-        ensures found { IsLegal self.old.airport self.old.history }
-        ensures legal { IsLegal self.new.airport self.new.history }
-        ensures faults { Counts (is_fault result) (K.state self.old.keeper).faults
-            (K.state self.new.keeper).faults }
-        ensures at_risk { LeavesAtRisk (history_at_risk_of (machine_state K.state self.old)) call
-            ask.now.what (is_fault result) (history_at_risk_of (machine_state K.state self.new)) }
-        ensures question { let plan = replay self.old.airport self.old.history in
-            IsTold (ask_outcome plan self.old.history ask.now)
-            → self.new.keeper ≡ self.old.keeper }
     {
         let answered = self.answer(alloc, call, ask);
         self.next = call + 1;

@@ -9,7 +9,7 @@ ghost use Rattle.plan_core.specs.Drafts.{draft_version};
 ghost use Rattle.plan_core.specs.PlanState.{HasBump, PlanState};
 ghost use Rattle.desk_asks.specs.declared.asks.Command.{Command};
 ghost use Rattle.desk_asks.specs.declared.asks.Entry.{Entry};
-ghost use Rattle.history_core.specs.Steps.{Stepped, TakenAs};
+ghost use Rattle.history_core.specs.Acceptance.{Stepped, TakenAs};
 ghost use Rattle.history_core.specs.History.{IsLegal, IsSoundPlan, replay};
 ghost use Rattle.history_core.specs.Laws.{HasAdded, HasCommit, HasEntry, HasVisit, last_edit, without_desks};
 

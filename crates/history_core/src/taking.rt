@@ -3,7 +3,7 @@
 ghost use Rattle.std.specs.Prelude.{◌≡◌, ◌↔◌, IfOk, IsTrue};
 ghost use Rattle.visit_book.specs.Numbers.{IsNumbered};
 ghost use Rattle.desk_asks.specs.Commands.{IsCommandOf};
-ghost use Rattle.history_core.specs.Steps.{TakesEntry};
+ghost use Rattle.history_core.specs.Acceptance.{TakesEntry};
 ghost use Rattle.history_core.specs.Taking.{ComesTo};
 
 mod cancel;

@@ -5,10 +5,10 @@ use Rattle.std.specs.List.{starts_with}
 use Rattle.std.specs.Str.{bytes_eq}
 use Rattle.std.proofs.lemmas.Bool.Decides.{nat_tests}
 use Rattle.std.proofs.lemmas.List.{take-take, drop-take, drop_at, take_at, get_or-take}
-use Rattle.journal_disk.specs.Entries.{entries_from, entries_of, part_length, records}
-use Rattle.journal_disk.specs.Header.{as_old, behind_part, digests_in, entries_past, has_magic, header_fault, is_new, line_end, magic, new_entries, old_entries, old_opening_of, opening_of, or_bad_record, unless}
+use Rattle.journal_disk.specs.Entries.{entries_from, entries_of, section_length, records}
+use Rattle.journal_disk.specs.Header.{as_old, behind_section, digests_in, entries_past, has_magic, header_fault, is_new, line_end, magic, new_entries, old_entries, old_opening_of, opening_of, or_bad_record, unless}
 use Rattle.journal_disk.specs.Limits.{first_gate, most_entries}
-use Rattle.journal_disk.specs.Parts.{IsHeaderAndOldPart}
+use Rattle.journal_disk.specs.Sections.{IsHeaderAndOldSection}
 use Rattle.journal_disk.specs.declared.fault.JournalFault.{JournalFault}
 use Rattle.journal_disk.specs.declared.fault.JournalFault.TheVariants.{BadRecord, NotAJournal, OldFormat}
 use Rattle.journal_disk.proofs.RecordTexts.{entries-closed}
@@ -51,13 +51,13 @@ pub header_tested : (digests text : List ℕ) → header_fault digests text ≡ 
 header_tested digests text is = tested _ (has_magic text) (bytes_eq (digests_in text) digests) NotAJournal _ is
 
 -- what a text is read as after a header that is right
-pub new_opening : (digests text : List ℕ) (size : ℕ) → header_fault digests text ≡ None → is_new text ≡ true → part_length (entries_of first_gate text) ≡ Some size → opening_of digests text ≡ or_bad_record (entries_of (behind_part size) text)
+pub new_opening : (digests text : List ℕ) (size : ℕ) → header_fault digests text ≡ None → is_new text ≡ true → section_length (entries_of first_gate text) ≡ Some size → opening_of digests text ≡ or_bad_record (entries_of (behind_section size) text)
 new_opening digests text size right new passed =
     ap (λ f. unless f (cond (is_new text) (new_entries text) (Err OldFormat))) right
     ∙ ap (λ b. cond b (new_entries text) (Err OldFormat)) new
     ∙ ap (λ p. entries_past p text) passed
 
-pub not_passed : (digests text : List ℕ) → header_fault digests text ≡ None → is_new text ≡ true → part_length (entries_of first_gate text) ≡ None → opening_of digests text ≡ Err (BadRecord 0)
+pub not_passed : (digests text : List ℕ) → header_fault digests text ≡ None → is_new text ≡ true → section_length (entries_of first_gate text) ≡ None → opening_of digests text ≡ Err (BadRecord 0)
 not_passed digests text right new not =
     ap (λ f. unless f (cond (is_new text) (new_entries text) (Err OldFormat))) right
     ∙ ap (λ b. cond b (new_entries text) (Err OldFormat)) new
@@ -69,8 +69,8 @@ old_opening digests text right old =
     ∙ ap (λ b. cond b (Ok None) (as_old (old_entries text))) old
 
 -- a front, and an image that begins with it
-module _ (new : Bool) (front : List ℕ) (f : IsHeaderAndOldPart new front) where
-  pub front_length : length front ≡ behind_part (length (records f.old))
+module _ (new : Bool) (front : List ℕ) (f : IsHeaderAndOldSection new front) where
+  pub front_length : length front ≡ behind_section (length (records f.old))
   front_length = omega (arith, ap length f.text, f.long, length-append f.header (records f.old ++ f.gate ∷ []), length-append (records f.old) (f.gate ∷ []))
 
   module _ (image rest : List ℕ) (is : image ≡ front ++ rest) where
@@ -102,18 +102,18 @@ module _ (new : Bool) (front : List ℕ) (f : IsHeaderAndOldPart new front) wher
         let magic : has_magic image ≡ true = sym (magic_kept image) ∙ ap has_magic header_is ∙ f.magic in
         no_header_fault digests image long magic (ap (λ l. bytes_eq l digests) (digests_are ∙ sym same) ∙ bytes_same digests)
 
-    behind_front : drop (behind_part (length (records f.old))) image ≡ rest
-    behind_front = ap (drop (behind_part (length (records f.old)))) is ∙ drop_at front rest _ front_length
+    behind_front : drop (behind_section (length (records f.old))) image ≡ rest
+    behind_front = ap (drop (behind_section (length (records f.old)))) is ∙ drop_at front rest _ front_length
 
 -- what comes after the front of format 2 counts
-pub opens_new : (front : List ℕ) (f : IsHeaderAndOldPart true front) (image rest digests : List ℕ) (found : List (List ℕ)) → image ≡ front ++ rest → digests ≡ digests_in f.header → entries_from most_entries rest ≡ Ok found → opening_of digests image ≡ Ok found
+pub opens_new : (front : List ℕ) (f : IsHeaderAndOldSection true front) (image rest digests : List ℕ) (found : List (List ℕ)) → image ≡ front ++ rest → digests ≡ digests_in f.header → entries_from most_entries rest ≡ Ok found → opening_of digests image ≡ Ok found
 opens_new front f image rest digests found is same read =
-    new_opening digests image (length (records f.old)) (right true front f image rest is digests same) (has_format true front f image rest is) (ap part_length (old_read true front f image rest is))
+    new_opening digests image (length (records f.old)) (right true front f image rest is digests same) (has_format true front f image rest is) (ap section_length (old_read true front f image rest is))
     ∙ ap (λ l. or_bad_record (entries_from most_entries l)) (behind_front true front f image rest is)
     ∙ ap or_bad_record read
 
 -- in format 1 nothing after the front counts
-pub opens_old : (front : List ℕ) (f : IsHeaderAndOldPart false front) (image rest digests : List ℕ) → image ≡ front ++ rest → digests ≡ digests_in f.header → old_opening_of digests image ≡ Ok (Some f.old)
+pub opens_old : (front : List ℕ) (f : IsHeaderAndOldSection false front) (image rest digests : List ℕ) → image ≡ front ++ rest → digests ≡ digests_in f.header → old_opening_of digests image ≡ Ok (Some f.old)
 opens_old front f image rest digests is same =
     old_opening digests image (right false front f image rest is digests same) (has_format false front f image rest is)
     ∙ ap (λ r. as_old (or_bad_record r)) (old_read false front f image rest is)

@@ -4,13 +4,13 @@ use Rattle.std.proofs.lemmas.List.{take_all}
 use Rattle.journal_disk.specs.Header.{header, digests_in, empty_journal}
 use Rattle.journal_disk.specs.Laws.{EmptyOpens}
 use Rattle.journal_disk.specs.Limits.{most_entries}
-use Rattle.journal_disk.specs.Parts.{IsHeaderAndOldPart}
+use Rattle.journal_disk.specs.Sections.{IsHeaderAndOldSection}
 use Rattle.journal_disk.proofs.Fronts.{opens_new}
 use Rattle.journal_disk.proofs.RecordTexts.{closed, is_shut}
 
 pub empty_opens : EmptyOpens
 empty_opens digests long =
-    let f : IsHeaderAndOldPart true (header digests ++ 0 ∷ []) = record {
+    let f : IsHeaderAndOldSection true (header digests ++ 0 ∷ []) = record {
       header = header digests;
       old = [];
       gate = 0;

@@ -6,7 +6,7 @@ use Rattle.journal_disk.specs.Entries.{records, with_length, IsEntry}
 use Rattle.journal_disk.specs.Faults.{FailsAs, RecordFails}
 use Rattle.journal_disk.specs.Header.{as_old, or_bad_record, unless}
 use Rattle.journal_disk.specs.Limits.{most_record}
-use Rattle.journal_disk.specs.Opening.{IsOldPart}
+use Rattle.journal_disk.specs.Opening.{IsOldSection}
 use Rattle.journal_disk.specs.declared.fault.JournalFault.{JournalFault}
 use Rattle.journal_disk.specs.declared.fault.JournalFault.TheVariants.{DiskFault, NotEmpty, NotAJournal, OtherAirport, OldFormat, BadRecord, Memory}
 
@@ -47,9 +47,9 @@ pub records_bound : (entries : List (List ℕ)) → Every IsEntry entries → le
 records_bound [] sizes = omega arith
 records_bound (entry ∷ entries) sizes = omega (arith, records_bound entries sizes.1, length-append (with_length entry) (records entries), sizes.0.1)
 
--- so is a refusal of an old part that was read
-pub part_bound : (text : List ℕ) (entries : List (List ℕ)) (size : ℕ) → IsOldPart text entries size → size ≤ most_record * length entries
-part_bound text entries size part = omega (arith, part.size_is, records_bound entries part.sizes)
+-- so is a refusal of an old section that was read
+pub section_bound : (text : List ℕ) (entries : List (List ℕ)) (size : ℕ) → IsOldSection text entries size → size ≤ most_record * length entries
+section_bound text entries size section = omega (arith, section.size_is, records_bound entries section.sizes)
 
 -- the whole of what was read
 pub read_whole : (n len : ℕ) (b into rest : List ℕ) → n ≡ length b → len ≡ n → into ≡ take n (drop 0 b) → take len (into ++ rest) ≡ b

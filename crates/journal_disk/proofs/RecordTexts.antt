@@ -7,7 +7,7 @@ use Rattle.apron_base.specs.Histories.{Every}
 use Rattle.journal_disk.specs.Limits.{most_entries, most_bytes}
 use Rattle.journal_disk.specs.Gates.{IsClosed}
 use Rattle.journal_disk.specs.Opening.{IsReadJournal, NextIs}
-use Rattle.journal_disk.specs.Entries.{behind_gate, closed_gate, open_gate, before_rest, with_record, entries_from, part_length, with_length, records, IsEntry}
+use Rattle.journal_disk.specs.Entries.{behind_gate, closed_gate, open_gate, before_rest, with_record, entries_from, section_length, with_length, records, IsEntry}
 
 -- these entries and then those of the rest
 abbrev pub after_entries : List (List ℕ) → Result (List (List ℕ)) ℕ → Result (List (List ℕ)) ℕ
@@ -252,7 +252,7 @@ read_is (suc left) (gate ∷ rest) entries are is = elim (cases_eq gate 1) [
   | inr shut ↦ nothing_read (suc left) gate rest entries shut is
 ]
 
--- A part that is passed over.
+-- A section that is passed over.
 abbrev pub plus_length : ℕ → Option ℕ → Option ℕ
 plus_length n (Some m) = Some (n + m)
 plus_length n None = None
@@ -265,34 +265,34 @@ plus_plus : (n m : ℕ) (p : Option ℕ) → plus_length n (plus_length m p) ≡
 plus_plus n m (Some k) = ap (λ i. Some i) (omega arith)
 plus_plus n m None = refl
 
-length_before : (entry : List ℕ) (r : Result (List (List ℕ)) ℕ) → part_length (before_rest entry r) ≡ plus_length (3 + length entry) (part_length r)
+length_before : (entry : List ℕ) (r : Result (List (List ℕ)) ℕ) → section_length (before_rest entry r) ≡ plus_length (3 + length entry) (section_length r)
 length_before entry (Ok entries) = ap (λ i. Some i) (omega (arith, length-append (with_length entry) (records entries)))
 length_before entry (Err number) = refl
 
 -- a turn of the loop
 pub passing : (text rest after entry : List ℕ) (number : ℕ) → NextIs number rest (Some (entry, after)) → length rest ≤ length text
-    → part_length (entries_from most_entries text) ≡ plus_length (length text - length rest) (part_length (entries_from (most_entries - number) rest))
-    → (number + 1 ≤ most_entries) × (length after ≤ length text) × (part_length (entries_from most_entries text) ≡ plus_length (length text - length after) (part_length (entries_from (most_entries - (number + 1)) after)))
+    → section_length (entries_from most_entries text) ≡ plus_length (length text - length rest) (section_length (entries_from (most_entries - number) rest))
+    → (number + 1 ≤ most_entries) × (length after ≤ length text) × (section_length (entries_from most_entries text) ≡ plus_length (length text - length after) (section_length (entries_from (most_entries - (number + 1)) after)))
 passing text rest after entry number next inside read =
     let others = entries_from (most_entries - (number + 1)) after in
     let so_far : length text - length rest + (3 + length entry) ≡ length text - length after = omega (arith, next.2, inside) in (
       omega (arith, next.0),
       omega (arith, next.2, inside),
       read
-          ∙ ap (λ r. plus_length (length text - length rest) (part_length r)) next.1
+          ∙ ap (λ r. plus_length (length text - length rest) (section_length r)) next.1
           ∙ ap (plus_length (length text - length rest)) (length_before entry others)
-          ∙ plus_plus (length text - length rest) (3 + length entry) (part_length others)
-          ∙ ap (λ n. plus_length n (part_length others)) so_far,
+          ∙ plus_plus (length text - length rest) (3 + length entry) (section_length others)
+          ∙ ap (λ n. plus_length n (section_length others)) so_far,
     )
 
 some_number : (a b : ℕ) → Some a ≡ Some b → a ≡ b
 some_number a b is = cc
 
 -- what was passed over is records and a closed gate
-pub passed_is : (text : List ℕ) (size : ℕ) → AreBytes text → part_length (entries_from most_entries text) ≡ Some size → (old : List (List ℕ)) × IsReadJournal text old size
+pub passed_is : (text : List ℕ) (size : ℕ) → AreBytes text → section_length (entries_from most_entries text) ≡ Some size → (old : List (List ℕ)) × IsReadJournal text old size
 passed_is text size are is = by_read (entries_from most_entries text) refl is
   where
-    by_read : (r : Result (List (List ℕ)) ℕ) → entries_from most_entries text ≡ r → part_length r ≡ Some size → (old : List (List ℕ)) × IsReadJournal text old size
+    by_read : (r : Result (List (List ℕ)) ℕ) → entries_from most_entries text ≡ r → section_length r ≡ Some size → (old : List (List ℕ)) × IsReadJournal text old size
     by_read (Err number) read e = absurd (cc e)
     by_read (Ok old) read e =
         let whole = read_is most_entries text old are read in

@@ -5,7 +5,7 @@ use Rattle.std.proofs.lemmas.List.{drop-drop, length-take-le}
 use Rattle.journal_disk.specs.Disk.{Between, DiskState, Goes, IfExposed, IsSafe, Same, Stays, TellsAlike, with_piece_at}
 use Rattle.journal_disk.specs.Entries.{last_record, records}
 use Rattle.journal_disk.specs.Limits.{most_first, most_entries, most_record}
-use Rattle.journal_disk.specs.Opening.{IsNewPart}
+use Rattle.journal_disk.specs.Opening.{IsNewSection}
 use Rattle.journal_disk.proofs.OpenedTexts.{records_bound}
 use Rattle.journal_disk.proofs.RecordTexts.{records-append}
 use Rattle.journal_disk.proofs.Tells.{Any}
@@ -18,13 +18,13 @@ last_fits entries =
     omega (arith, all, ap length (records-append (take k entries) (drop k entries)), length-append (records (take k entries)) (records (drop k entries)))
 
 -- the gate after the records is inside the text
-pub gate_inside : (text : List ℕ) (first : ℕ) (entries : List (List ℕ)) (size : ℕ) → IsNewPart text first entries size → first + size + 1 ≤ length text
-gate_inside text first entries size part =
-    omega (arith, part.inside, length-drop first text, ap length part.read.closed.text, length-append (records entries) (part.read.closed.gate ∷ part.read.closed.rest), part.read.size_is)
+pub gate_inside : (text : List ℕ) (first : ℕ) (entries : List (List ℕ)) (size : ℕ) → IsNewSection text first entries size → first + size + 1 ≤ length text
+gate_inside text first entries size section =
+    omega (arith, section.inside, length-drop first text, ap length section.read.closed.text, length-append (records entries) (section.read.closed.gate ∷ section.read.closed.rest), section.read.size_is)
 
 -- and its place is within the limits
-pub gate_within : (text : List ℕ) (first : ℕ) (entries : List (List ℕ)) (size : ℕ) → IsNewPart text first entries size → first + size ≤ most_first + most_record * most_entries
-gate_within text first entries size part = omega (arith, part.early, part.read.size_is, records_bound entries part.read.sizes, part.read.few)
+pub gate_within : (text : List ℕ) (first : ℕ) (entries : List (List ℕ)) (size : ℕ) → IsNewSection text first entries size → first + size ≤ most_first + most_record * most_entries
+gate_within text first entries size section = omega (arith, section.early, section.read.size_is, records_bound entries section.read.sizes, section.read.few)
 
 -- bytes that are written where they were
 pub written_again : (at size : ℕ) (bytes : List ℕ) → at + size ≤ length bytes → with_piece_at at (take size (drop at bytes)) bytes ≡ bytes

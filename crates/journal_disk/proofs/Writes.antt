@@ -109,10 +109,10 @@ torn_byte at old new inside torn =
 pub goes_further : (at end : ℕ) → at ≤ end → (a b c : DiskState) → Goes (KeepsTo at) a b → Goes (KeepsTo end) b c → Goes (KeepsTo at) a c
 goes_further at end early a b c one two = goes_both (KeepsTo at) (keeps_both at) a b c one (goes_like (KeepsTo end) (KeepsTo at) (keeps_early at end early) b c two)
 
--- a part, once the gate after its records was written and all was synced
-pub part_safe : (at end : ℕ) (recs : List ℕ) (told now : Option (List ℕ)) (disk : DiskState) → end ≡ at + length recs → ((bytes : List ℕ) → told ≡ Some bytes → at ≤ length bytes) → now ≡ option_map (with_piece_at at recs) told
+-- a section, once the gate after its records was written and all was synced
+pub section_safe : (at end : ℕ) (recs : List ℕ) (told now : Option (List ℕ)) (disk : DiskState) → end ≡ at + length recs → ((bytes : List ℕ) → told ≡ Some bytes → at ≤ length bytes) → now ≡ option_map (with_piece_at at recs) told
     → ((bytes : List ℕ) → now ≡ Some bytes → IsSafe (with_piece_at end (0 ∷ []) bytes) disk) → (bytes : List ℕ) → told ≡ Some bytes → IsSafe (with_piece_at at (recs ++ 0 ∷ []) bytes) disk
-part_safe at end recs told now disk reach inside put safe bytes is image left =
+section_safe at end recs told now disk reach inside put safe bytes is image left =
     let later : now ≡ Some (with_piece_at at recs bytes) = put ∙ ap (option_map (with_piece_at at recs)) is in
     safe (with_piece_at at recs bytes) later image left ∙ ap (λ n. with_piece_at n (0 ∷ []) (with_piece_at at recs bytes)) reach ∙ written_both at recs (0 ∷ []) bytes (inside bytes is)
 

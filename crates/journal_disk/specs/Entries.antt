@@ -64,7 +64,7 @@ records (entry ∷ entries) = open_gate ∷ (with_length entry ++ records entrie
 abbrev pub last_record : List (List ℕ) → ℕ
 last_record entries = length (records (drop (length entries - 1) entries))
 
--- how long the records of a part are; none if one of them isn't whole
-abbrev pub part_length : Result (List (List ℕ)) ℕ → Option ℕ
-part_length (Ok entries) = Some (length (records entries))
-part_length (Err number) = None
+-- how long the records of a section are; none if one of them isn't whole
+abbrev pub section_length : Result (List (List ℕ)) ℕ → Option ℕ
+section_length (Ok entries) = Some (length (records entries))
+section_length (Err number) = None

@@ -10,9 +10,9 @@ use Rattle.journal_disk.specs.Entries.{behind_gate, closed_gate, entries_of, las
 use Rattle.journal_disk.specs.Gates.{GateIs, mending_calls}
 use Rattle.journal_disk.specs.Header.{digests_in, opening_of}
 use Rattle.journal_disk.specs.Limits.{most_entries, most_bytes, most_first, most_record, record_frame}
-use Rattle.journal_disk.specs.Parts.{IsHeaderAndOldPart}
+use Rattle.journal_disk.specs.Sections.{IsHeaderAndOldSection}
 
--- where the first gate of a journal's new part is, where the gate after its last record is, how
+-- where the first gate of a journal's new section is, where the gate after its last record is, how
 -- many records are between them, and whether that last gate may have been opened for an entry that
 -- was not acknowledged
 pub record Extent : Type 0 where
@@ -70,8 +70,8 @@ pub record HasOpened (keeper : KeeperState) (found : List (List ℕ)) : Type 0 w
   pub number : keeper.number ≡ length found
   pub at_risk : keeper.at_risk ≡ None
 
--- an image with the header and the old part of these bytes, which opens to their entries before the
--- gate place, or to these and one more at risk
+-- an image with the header and the old section of these bytes, which opens to their entries before
+-- the gate place, or to these and one more at risk
 abbrev pub StandsFor : Extent → List ℕ → (List ℕ → Type 0) → List ℕ → Type 0
 StandsFor extent bytes AtRisk image =
     (take extent.first image ≡ take extent.first bytes)
@@ -106,14 +106,14 @@ append_calls extent entry =
     ++ (safe_write (extent.place + 1) (length entry + record_frame)
     ++ safe_write extent.place 1)
 
--- Up to the gate place there are the header and the old part of a journal of format 2, and the
+-- Up to the gate place there are the header and the old section of a journal of format 2, and the
 -- records of the entries. After them each image has a closed gate or, if that gate may have been
 -- opened, the entry at risk.
 pub record IsSettled (extent : Extent) (disk : DiskState) : Type 0 where
   pub front : List ℕ
   pub entries : List (List ℕ)
   pub risk : List ℕ
-  pub begins : IsHeaderAndOldPart true front
+  pub begins : IsHeaderAndOldSection true front
   pub first : length front ≡ extent.first
   pub sizes : Every IsEntry entries
   pub count : length entries ≡ extent.number

@@ -50,9 +50,9 @@ not_bad is bad = cc
 
 -- why nothing is read of a journal's text: the bytes of its disk aren't read, or they are a text
 -- that fails so
-abbrev pub PartFails : (List ℕ → JournalFault → Type 0) → DiskState → DiskState → JournalFault
+abbrev pub SectionFails : (List ℕ → JournalFault → Type 0) → DiskState → DiskState → JournalFault
     → Type 0
-PartFails Fails before now fault =
+SectionFails Fails before now fault =
     ReadFails before.faults now.faults fault
     ⊎ (Counts false before.faults now.faults
     × ((text : List ℕ) × IfExposed before (λ bytes. text ≡ bytes) × Fails text fault))

@@ -1,12 +1,12 @@
 -- The header of a journal, and what opening a journal gives. The header is the word APRNJ, the
--- format byte, carriage return and line feed, and two digests. The old part comes after it, and in
--- format 2 the new part after that.
+-- format byte, carriage return and line feed, and two digests. The old section comes after it, and
+-- in format 2 the new section after that.
 use Rattle.std.specs.Prelude.{◌+◌, ℕ, List, [], ◌∷◌, ◌++◌, length, take, drop, get_or, Bool, Option, None, Some, Result, Ok, Err, not, ◌||◌, ◌&&◌, ◌==◌, nat_eq, nat_lt, if◌then◌else◌}
 use Rattle.std.specs.List.{starts_with}
 use Rattle.std.specs.Str.{bytes_eq}
 use Rattle.journal_disk.specs.declared.fault.JournalFault.{JournalFault}
 use Rattle.journal_disk.specs.declared.fault.JournalFault.TheVariants.{NotAJournal, OtherAirport, OldFormat, BadRecord}
-use Rattle.journal_disk.specs.Entries.{closed_gate, entries_of, part_length}
+use Rattle.journal_disk.specs.Entries.{closed_gate, entries_of, section_length}
 use Rattle.journal_disk.specs.Limits.{digests_length, first_gate, format_place, line_place, magic_length}
 
 -- the word that a journal begins with: APRNJ
@@ -25,7 +25,7 @@ line_end = 13 ∷ 10 ∷ []
 abbrev pub header : List ℕ → List ℕ
 header digests = magic ++ new_format ∷ (line_end ++ digests)
 
--- a journal of format 2 with no entry: no record in either part
+-- a journal of format 2 with no entry: no record in either section
 abbrev pub empty_journal : List ℕ → List ℕ
 empty_journal digests = header digests ++ closed_gate ∷ closed_gate ∷ []
 
@@ -47,22 +47,23 @@ abbrev pub or_bad_record : Result (List (List ℕ)) ℕ → Result (List (List �
 or_bad_record (Ok entries) = Ok entries
 or_bad_record (Err number) = Err (BadRecord number)
 
--- where the first gate of the new part is, if the records of the old part have this many bytes:
--- just after the gate that ends the old part
-abbrev pub behind_part : ℕ → ℕ
-behind_part size = first_gate + size + 1
+-- where the first gate of the new section is, if the records of the old section have this many
+-- bytes: just after the gate that ends the old section
+abbrev pub behind_section : ℕ → ℕ
+behind_section size = first_gate + size + 1
 
--- the entries of the new part after an old part of this length, or the fault that a record of the
--- old part isn't whole
+-- the entries of the new section after an old section of this length, or the fault that a record of
+-- the old section isn't whole
 abbrev pub entries_past : Option ℕ → List ℕ → Result (List (List ℕ)) JournalFault
-entries_past (Some size) bytes = or_bad_record (entries_of (behind_part size) bytes)
+entries_past (Some size) bytes = or_bad_record (entries_of (behind_section size) bytes)
 entries_past None bytes = Err (BadRecord 0)
 
--- the entries of format 2: the old part is walked and passed over, and those of the new part count
+-- the entries of format 2: the old section is walked and passed over, and those of the new section
+-- count
 abbrev pub new_entries : List ℕ → Result (List (List ℕ)) JournalFault
-new_entries bytes = entries_past (part_length (entries_of first_gate bytes)) bytes
+new_entries bytes = entries_past (section_length (entries_of first_gate bytes)) bytes
 
--- the entries of format 1: those of the old part
+-- the entries of format 1: those of the old section
 abbrev pub old_entries : List ℕ → Result (List (List ℕ)) JournalFault
 old_entries bytes = or_bad_record (entries_of first_gate bytes)
 

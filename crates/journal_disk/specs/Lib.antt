@@ -6,7 +6,7 @@ pub mod TornWrites
 pub mod Entries
 pub mod Gates
 pub mod Header
-pub mod Parts
+pub mod Sections
 pub mod Extent
 pub mod Opening
 pub mod Switch

@@ -33,10 +33,10 @@ magic_length = 8
 abbrev pub digests_length : ℕ
 digests_length = 64
 
--- where the first gate of the old part is: after the header, which is all of these
+-- where the first gate of the old section is: after the header, which is all of these
 abbrev pub first_gate : ℕ
 first_gate = 72
 
--- the farthest place at which the first gate of the new part can be
+-- the farthest place at which the first gate of the new section can be
 abbrev pub most_first : ℕ
 most_first = first_gate + most_record * most_entries + 1

@@ -28,7 +28,7 @@ const LINE: usize = 6;
 // Where the digests are.
 const DIGESTS: usize = 8;
 
-/// How long the header is: the first gate of the old part is there.
+/// How long the header is: the first gate of the old section is there.
 pub(crate) const HEADER: usize = 72;
 
 /// Makes a journal with no entry on an empty disk, of the files of these two digests (32 bytes

@@ -7,10 +7,10 @@ ghost use Rattle.journal_disk.specs.Extent.{AppendsSafely, HasOpened, IsCrashSaf
 ghost use Rattle.journal_disk.specs.Faults.{OpenFails};
 ghost use Rattle.journal_disk.specs.Header.{opening_of};
 ghost use Rattle.journal_disk.specs.Limits.{most_bytes, most_entries, most_first, most_record};
-ghost use Rattle.journal_disk.specs.Opening.{IsNewPart};
+ghost use Rattle.journal_disk.specs.Opening.{IsNewSection};
 
 use crate::gates::{FRAME, OPEN, mend, set_gate, stage};
-use crate::opening::{NewPart, read_journal, reread_journal};
+use crate::opening::{NewSection, read_journal, reread_journal};
 use crate::records::Records;
 use crate::{Disk, JournalFault};
 use apron_base::{Failed, Keeper, Listed, MAX_ENTRIES, MAX_ENTRY, Memory};
@@ -22,7 +22,7 @@ use std::marker::Model;
 #[derive(Drop)]
 pub struct Journal<D: Disk> {
     disk: D,
-    // where the first gate of the new part is
+    // where the first gate of the new section is
     first: u32,
     // where the gate after its last record is
     place: u32,
@@ -47,7 +47,7 @@ impl<D: Disk> Model for Journal<D> {
 
 impl<D: Disk> Journal<D> {
     /// Opens the journal of format 2 of the files of these two digests (32 bytes each), and gives
-    /// the entries of its new part, in order. It syncs before it reads, so a later crash leaves
+    /// the entries of its new section, in order. It syncs before it reads, so a later crash leaves
     /// what it gives. If a record isn't whole it does both once more, since a replicated file
     /// system may have told an old size of the file, at which the journal seems cut. A refusal
     /// hands the disk back, which reads as before. It is `DiskFault` if the disk failed;
@@ -72,27 +72,27 @@ impl<D: Disk> Journal<D> {
     {
         let mut disk = disk;
         match read_journal(alloc, &mut disk, digests) {
-            Ok(part) => Ok(Journal::of(disk, part)),
+            Ok(section) => Ok(Journal::of(disk, section)),
             Err(fault) => Err((fault, disk)),
         }
     }
 
-    // The journal whose new part was read from the disk, and the entries of that part.
-    fn of(disk: D, part: NewPart) -> (Journal<D>, Vec<Listed<u8>>)
-        requires early { part.first ≤ most_first }
-        requires few { length part.records.entries.items ≤ most_entries }
-        requires within { part.records.length ≤ most_record * length part.records.entries.items }
+    // The journal whose new section was read from the disk, and the entries of that section.
+    fn of(disk: D, section: NewSection) -> (Journal<D>, Vec<Listed<u8>>)
+        requires early { section.first ≤ most_first }
+        requires few { length section.records.entries.items ≤ most_entries }
+        requires within { section.records.length ≤ most_record * length section.records.entries.items }
         requires whole { IfExposed (D.state disk) (λ bytes. IsSafe bytes (D.state disk)
-            × IsNewPart bytes part.first part.records.entries.items part.records.length) }
+            × IsNewSection bytes section.first section.records.entries.items section.records.length) }
         ensures disk { result.0.disk ≡ disk }
-        ensures entries { result.1.items ≡ part.records.entries.items }
-        ensures place { result.0.extent.place ≡ part.first + part.records.length }
+        ensures entries { result.1.items ≡ section.records.entries.items }
+        ensures place { result.0.extent.place ≡ section.first + section.records.length }
         ensures keeper { HasOpened (keeper_of result.0.extent (D.state result.0.disk)) result.1.items }
     {
-        let NewPart {
+        let NewSection {
             first,
             records: Records { entries, length },
-        } = part;
+        } = section;
         let journal = Journal {
             disk,
             first: first as u32,
@@ -130,7 +130,7 @@ impl<D: Disk> Journal<D> {
     {
         let mut disk = disk;
         match reread_journal(alloc, &mut disk, digests) {
-            Ok(part) => Ok(Journal::of(disk, part)),
+            Ok(section) => Ok(Journal::of(disk, section)),
             Err(fault) => Err((fault, disk)),
         }
     }

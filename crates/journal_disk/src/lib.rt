@@ -1,7 +1,8 @@
 //! Entries on a disk, each safely there before it is acknowledged. A journal has a header, and then
-//! two parts, each a list of records. Its format byte says whether its entries are those of the old
-//! part (format 1) or those of the new part after it (format 2). A journal of format 1 can be read
-//! and upgraded; no entry is appended to it. The crate doesn't know what an entry means.
+//! two sections, each a list of records. Its format byte says whether its entries are those of the
+//! old section (format 1) or those of the new section after it (format 2). A journal of format 1
+//! can be read and upgraded; no entry is appended to it. The crate doesn't know what an entry
+//! means.
 #![tactic(auto)]
 
 mod borrowed_disk;
@@ -14,8 +15,8 @@ mod journal;
 mod laws;
 mod memory_disk;
 mod opening;
-mod parts;
 mod records;
+mod sections;
 mod upgrade;
 
 pub use digest::digest_of;

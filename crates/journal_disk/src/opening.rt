@@ -8,9 +8,9 @@ ghost use Rattle.journal_disk.specs.Disk.DoneCall.{DoneSync};
 ghost use Rattle.journal_disk.specs.Entries.{IsEntry, last_record, records};
 ghost use Rattle.journal_disk.specs.Extent.{opening_calls};
 ghost use Rattle.journal_disk.specs.Header.{old_opening_of, opening_of};
-ghost use Rattle.journal_disk.specs.Faults.{TextFails, OldTextFails, OpenFails, OldOpenFails, PartFails, ReadFails, not_bad};
+ghost use Rattle.journal_disk.specs.Faults.{TextFails, OldTextFails, OpenFails, OldOpenFails, SectionFails, ReadFails, not_bad};
 ghost use Rattle.journal_disk.specs.Limits.{most_entries, most_first, most_record};
-ghost use Rattle.journal_disk.specs.Opening.{IsNewPart, IsOldPart};
+ghost use Rattle.journal_disk.specs.Opening.{IsNewSection, IsOldSection};
 ghost use Rattle.journal_disk.specs.declared.fault.JournalFault.{JournalFault};
 ghost use Rattle.journal_disk.specs.declared.fault.JournalFault.TheVariants.{BadRecord};
 
@@ -21,9 +21,9 @@ use crate::{Disk, JournalFault};
 use apron_base::Listed;
 use std::alloc::Global;
 
-/// The new part of a journal: where its first gate is, and its records.
+/// The new section of a journal: where its first gate is, and its records.
 #[derive(Drop)]
-pub(crate) struct NewPart {
+pub(crate) struct NewSection {
     pub(crate) first: usize,
     pub(crate) records: Records,
 }
@@ -33,13 +33,13 @@ pub(crate) fn read_journal<D: Disk>(
     alloc: Global,
     disk: &mut D,
     digests: &[u8; 64],
-) -> Result<NewPart, JournalFault>
+) -> Result<NewSection, JournalFault>
     ensures stays { Stays (D.state disk.old) (D.state disk.new) }
     ensures durable { OnOk result (IsDurable (D.state disk.old) (D.state disk.new)) }
     ensures opened { IfOk result (λ found. IfExposed (D.state disk.old)
         (λ bytes. opening_of digests.now bytes ≡ Ok found.records.entries.items)) }
     ensures whole { IfOk result (λ found. IfExposed (D.state disk.old)
-        (λ bytes. IsNewPart bytes found.first found.records.entries.items found.records.length)) }
+        (λ bytes. IsNewSection bytes found.first found.records.entries.items found.records.length)) }
     ensures early { IfOk result (λ found. found.first ≤ most_first) }
     ensures few { IfOk result (λ found. length found.records.entries.items ≤ most_entries) }
     ensures within { IfOk result (λ found.
@@ -48,8 +48,8 @@ pub(crate) fn read_journal<D: Disk>(
         (Counts false (D.state disk.old).faults (D.state disk.new).faults) }
     ensures refused { IfErr result (OpenFails digests.now (D.state disk.old) (D.state disk.new)) }
 {
-    let (_, part) = read_part(alloc, disk, digests)?;
-    Ok(part)
+    let (_, section) = read_section(alloc, disk, digests)?;
+    Ok(section)
 }
 
 /// Reads the disk as `read_journal` does, then writes the last record and the gate after it again as
@@ -58,13 +58,13 @@ pub(crate) fn reread_journal<D: Disk>(
     alloc: Global,
     disk: &mut D,
     digests: &[u8; 64],
-) -> Result<NewPart, JournalFault>
+) -> Result<NewSection, JournalFault>
     ensures stays { Stays (D.state disk.old) (D.state disk.new) }
     ensures durable { OnOk result (IsDurable (D.state disk.old) (D.state disk.new)) }
     ensures opened { IfOk result (λ found. IfExposed (D.state disk.old)
         (λ bytes. opening_of digests.now bytes ≡ Ok found.records.entries.items)) }
     ensures whole { IfOk result (λ found. IfExposed (D.state disk.old)
-        (λ bytes. IsNewPart bytes found.first found.records.entries.items found.records.length)) }
+        (λ bytes. IsNewSection bytes found.first found.records.entries.items found.records.length)) }
     ensures early { IfOk result (λ found. found.first ≤ most_first) }
     ensures few { IfOk result (λ found. length found.records.entries.items ≤ most_entries) }
     ensures within { IfOk result (λ found.
@@ -76,11 +76,11 @@ pub(crate) fn reread_journal<D: Disk>(
         (Counts false (D.state disk.old).faults (D.state disk.new).faults) }
     ensures refused { IfErr result (OpenFails digests.now (D.state disk.old) (D.state disk.new)) }
 {
-    let (text, part) = read_part::<D, NewPart>(alloc, disk, digests)?;
-    let place = part.first + part.records.length;
-    let last = last_record(&part.records.entries);
+    let (text, section) = read_section::<D, NewSection>(alloc, disk, digests)?;
+    let place = section.first + section.records.length;
+    let last = last_record(&section.records.entries);
     write_back(disk, &text, place - last, last + 1)?;
-    Ok(part)
+    Ok(section)
 }
 
 // How long the record of the last of these entries is; 0 if there is none.
@@ -107,24 +107,24 @@ pub(crate) fn read_old_journal<D: Disk>(
         (λ bytes. old_opening_of digests.now bytes
         ≡ Ok (option_map (λ records. records.entries.items) found))) }
     ensures whole { IfOk result (λ found. IfSome found (λ records. IfExposed (D.state disk.old)
-        (λ bytes. IsOldPart bytes records.entries.items records.length))) }
+        (λ bytes. IsOldSection bytes records.entries.items records.length))) }
     ensures few { IfOk result (λ found.
         IfSome found (λ records. length records.entries.items ≤ most_entries)) }
     ensures within { IfOk result (λ found. IfSome found (λ records.
         records.length ≤ most_record * length records.entries.items)) }
-    ensures size { IfOk result (λ found. IfSome found (λ part.
-        part.length ≡ length (records part.entries.items))) }
+    ensures size { IfOk result (λ found. IfSome found (λ section.
+        section.length ≡ length (records section.entries.items))) }
     ensures counts { OnOk result
         (Counts false (D.state disk.old).faults (D.state disk.new).faults) }
     ensures refused { IfErr result
         (OldOpenFails digests.now (D.state disk.old) (D.state disk.new)) }
 {
-    let (_, found) = read_part(alloc, disk, digests)?;
+    let (_, found) = read_section(alloc, disk, digests)?;
     Ok(found)
 }
 
 // What is read of a journal's text.
-trait Part: Drop + Sized {
+trait Section: Drop + Sized {
     // With these digests it is what is read of this text.
     ghost is_read: { List ℕ → List ℕ → Self → Type 0 };
 
@@ -136,27 +136,27 @@ trait Part: Drop + Sized {
         ensures refused { IfErr result (fails digests.now text.now) };
 
     // A text of which it is read has no bad record.
-    ghost whole: { (digests text : List ℕ) (part : Self) (number : ℕ)
-        → is_read digests text part → fails digests text (BadRecord number) → ⊥ };
+    ghost whole: { (digests text : List ℕ) (section : Self) (number : ℕ)
+        → is_read digests text section → fails digests text (BadRecord number) → ⊥ };
 }
 
-impl Part for NewPart {
-    ghost is_read = { λ digests text part. (opening_of digests text ≡ Ok part.records.entries.items)
-        × IsNewPart text part.first part.records.entries.items part.records.length };
+impl Section for NewSection {
+    ghost is_read = { λ digests text section. (opening_of digests text ≡ Ok section.records.entries.items)
+        × IsNewSection text section.first section.records.entries.items section.records.length };
 
     ghost fails = { TextFails };
 
-    fn read(alloc: Global, text: &[u8], digests: &[u8; 64]) -> Result<NewPart, JournalFault> {
+    fn read(alloc: Global, text: &[u8], digests: &[u8; 64]) -> Result<NewSection, JournalFault> {
         read_text(alloc, text, digests)
     }
 
-    ghost whole = { λ digests text part number is. not_bad is.0 };
+    ghost whole = { λ digests text section number is. not_bad is.0 };
 }
 
-impl Part for Option<Records> {
+impl Section for Option<Records> {
     ghost is_read = { λ digests text found.
         (old_opening_of digests text ≡ Ok (option_map (λ records. records.entries.items) found))
-        × IfSome found (λ records. IsOldPart text records.entries.items records.length) };
+        × IfSome found (λ records. IsOldSection text records.entries.items records.length) };
 
     ghost fails = { OldTextFails };
 
@@ -171,10 +171,10 @@ impl Part for Option<Records> {
     ghost whole = { λ digests text found number is. not_bad is.0 };
 }
 
-// Makes what the disk reads as safe from a crash, and reads a part of it. If a record isn't whole it
-// does all that once more, and the second answer counts: a replicated file system may have told an
-// old size of the file, at which the text was cut.
-fn read_part<D: Disk, P: Part>(
+// Makes what the disk reads as safe from a crash, and reads a section of it. If a record isn't
+// whole it does all that once more, and the second answer counts: a replicated file system may have
+// told an old size of the file, at which the text was cut.
+fn read_section<D: Disk, P: Section>(
     alloc: Global,
     disk: &mut D,
     digests: &[u8; 64],
@@ -189,7 +189,7 @@ fn read_part<D: Disk, P: Part>(
     ensures counts { OnOk result
         (Counts false (D.state disk.old).faults (D.state disk.new).faults) }
     ensures refused { IfErr result
-        (PartFails (P.fails digests.now) (D.state disk.old) (D.state disk.new)) }
+        (SectionFails (P.fails digests.now) (D.state disk.old) (D.state disk.new)) }
 {
     match read_once(alloc, disk, digests) {
         Err(JournalFault::BadRecord(_)) => read_once(alloc, disk, digests),
@@ -198,7 +198,7 @@ fn read_part<D: Disk, P: Part>(
 }
 
 // The same, but only once.
-fn read_once<D: Disk, P: Part>(
+fn read_once<D: Disk, P: Section>(
     alloc: Global,
     disk: &mut D,
     digests: &[u8; 64],
@@ -213,11 +213,11 @@ fn read_once<D: Disk, P: Part>(
     ensures counts { OnOk result
         (Counts false (D.state disk.old).faults (D.state disk.new).faults) }
     ensures refused { IfErr result
-        (PartFails (P.fails digests.now) (D.state disk.old) (D.state disk.new)) }
+        (SectionFails (P.fails digests.now) (D.state disk.old) (D.state disk.new)) }
 {
     let text = read_all(alloc, disk)?;
-    let part = P::read(alloc, &text, digests)?;
-    Ok((text, part))
+    let section = P::read(alloc, &text, digests)?;
+    Ok((text, section))
 }
 
 // Makes what the disk reads as safe from a crash, and gives all its bytes.
@@ -239,12 +239,12 @@ fn read_all<D: Disk>(alloc: Global, disk: &mut D) -> Result<Vec<u8>, JournalFaul
     Ok(bytes)
 }
 
-// The new part of a journal of these digests.
-fn read_text(alloc: Global, text: &[u8], digests: &[u8; 64]) -> Result<NewPart, JournalFault>
+// The new section of a journal of these digests.
+fn read_text(alloc: Global, text: &[u8], digests: &[u8; 64]) -> Result<NewSection, JournalFault>
     ensures opened { IfOk result (λ found.
         opening_of digests.now text.now ≡ Ok found.records.entries.items) }
     ensures whole { IfOk result (λ found.
-        IsNewPart text.now found.first found.records.entries.items found.records.length) }
+        IsNewSection text.now found.first found.records.entries.items found.records.length) }
     ensures refused { IfErr result (TextFails digests.now text.now) }
 {
     test_header(text, digests)?;
@@ -256,7 +256,7 @@ fn read_text(alloc: Global, text: &[u8], digests: &[u8; 64]) -> Result<NewPart, 
     };
     let first = HEADER + size + 1;
     let records = read_records(alloc, &text[first..])?;
-    Ok(NewPart { first, records })
+    Ok(NewSection { first, records })
 }
 
 // The records of a journal of format 1 of these digests; `None` if it is of format 2.
@@ -268,7 +268,7 @@ fn read_old_text(
     ensures opened { IfOk result (λ found. old_opening_of digests.now text.now
         ≡ Ok (option_map (λ records. records.entries.items) found)) }
     ensures whole { IfOk result (λ found. IfSome found (λ records.
-        IsOldPart text.now records.entries.items records.length)) }
+        IsOldSection text.now records.entries.items records.length)) }
     ensures refused { IfErr result (OldTextFails digests.now text.now) }
 {
     test_header(text, digests)?;

@@ -1,7 +1,7 @@
 // The records of a journal's text.
 ghost use Rattle.std.specs.Prelude.{◌≡◌, ◌≤◌, ◌-◌, IfOk, IfErr, IfSome, Ok, Err};
 ghost use Rattle.std.specs.Option.{option_map};
-ghost use Rattle.journal_disk.specs.Entries.{behind_gate, entries_from, part_length};
+ghost use Rattle.journal_disk.specs.Entries.{behind_gate, entries_from, section_length};
 ghost use Rattle.journal_disk.specs.Faults.{RecordFails};
 ghost use Rattle.journal_disk.specs.Limits.{most_entries};
 ghost use Rattle.journal_disk.specs.Opening.{IsPassed, IsReadJournal, NextIs};
@@ -51,10 +51,10 @@ pub(crate) fn read_records(alloc: Global, text: &[u8]) -> Result<Records, Journa
     Ok(Records { entries, length })
 }
 
-/// How many bytes the records of a part have; `None` if one of them isn't whole. It takes no
+/// How many bytes the records of a section have; `None` if one of them isn't whole. It takes no
 /// memory.
 pub(crate) fn pass_records(text: &[u8]) -> Option<usize>
-    ensures length { result ≡ part_length (entries_from most_entries text.now) }
+    ensures length { result ≡ section_length (entries_from most_entries text.now) }
     ensures whole { IfSome result (IsPassed text.now) }
 {
     let mut rest = text;

@@ -12,8 +12,8 @@ ghost use Rattle.journal_disk.specs.Switch.{HasSwitched, SwitchesSafely};
 ghost use Rattle.journal_disk.specs.declared.fault.JournalFault.TheVariants.{DiskFault};
 
 use crate::opening::read_old_journal;
-use crate::parts::switch_parts;
 use crate::records::Records;
+use crate::sections::switch_sections;
 use crate::{Disk, JournalFault};
 use apron_base::{Failed, Listed};
 use std::alloc::Global;
@@ -109,7 +109,7 @@ impl<D: Disk> OldJournal<D> {
         ensures continues { Continues (D.state self.disk) (D.state result.1) }
 
         // A crash at any moment of the call leaves the old entries in format 1, or the given ones
-        // in format 2. Of the header and the old part only the format byte is written.
+        // in format 2. Of the header and the old section only the format byte is written.
         ensures crash { SwitchesSafely self.size self.entries entries.now
             (D.state self.disk) (D.state result.1) }
 
@@ -121,7 +121,7 @@ impl<D: Disk> OldJournal<D> {
             (D.state result.1).faults }
     {
         let mut disk = self.disk;
-        match switch_parts(&mut disk, self.size, entries) {
+        match switch_sections(&mut disk, self.size, entries) {
             Ok(()) => (Ok(()), disk),
             Err(Failed) => (Err(JournalFault::DiskFault), disk),
         }

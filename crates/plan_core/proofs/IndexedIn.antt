@@ -27,7 +27,7 @@ use Rattle.visit_book.specs.Numbers.{IsNumbered, visit_at}
 use Rattle.visit_book.specs.Slots.{slots_of}
 use Rattle.visit_book.specs.WellFormed.{IsWellFormed}
 use Rattle.plan_core.specs.Indexed.{IsIndexed}
-use Rattle.plan_core.specs.Indexing.{AreApart, HasPlaceFor, KeepsRoom, numbers_of}
+use Rattle.plan_core.specs.Indexing.{AreApart, CanHold, KeepsRoom, numbers_of}
 use Rattle.plan_core.specs.PlanState.{is_on, visit_number}
 use Rattle.plan_core.proofs.IndexedOrder.{IsOrdered, numbered_rises, slots_minutes, slots_ordered}
 use Rattle.plan_core.proofs.IndexedStands.{added_index, added_slots}
@@ -88,7 +88,7 @@ other_number a changed high p q rise formed in_p other same =
 pub can_index : (a : AirportParts) (index out : List StandSlots) (visits changed new : List Visit) (high : ℕ) → IsIndexed a index visits → IsMerged visits changed new
     → IsNumbered visits → All (IsWellFormed a) visits → All (IsWellFormed a) changed → Rises visit_number 1 high changed → IsSound a (slots_of a new)
     → all_slots out ≡ others_of index (numbers_of changed) → length out ≡ length index
-    → ((stand : StandNo) → count_by (is_on stand) (slots_of a changed) ≤ (at_stand out stand).spare) → HasPlaceFor out (slots_of a changed)
+    → ((stand : StandNo) → count_by (is_on stand) (slots_of a changed) ≤ (at_stand out stand).spare) → CanHold out (slots_of a changed)
 can_index a index out visits changed new high indexed merged numbered formed changed_formed rise sound left long room =
     record {
       stands = λ k d inside. omega (arith, long, indexed.stands, (are_changed k d inside).0);
@@ -167,7 +167,7 @@ pub record IsPutSoFar (out : List StandSlots) (slots : List Slot) (count : ℕ) 
   pub stands : length now ≡ length out
   pub room : (stand : StandNo) → count_by (is_on stand) (drop count slots) ≤ (at_stand now stand).spare
 
-pub none_put : (out : List StandSlots) (slots : List Slot) → IsIndex out → HasPlaceFor out slots → IsPutSoFar out slots 0 out
+pub none_put : (out : List StandSlots) (slots : List Slot) → IsIndex out → CanHold out slots → IsPutSoFar out slots 0 out
 none_put out slots is place = record {
   put = subst (λ (xs : List Slot). IsPermutation xs (all_slots out)) (sym (append-nil (all_slots out))) (IsPermutation-refl (all_slots out));
   index = is;
@@ -179,7 +179,7 @@ is_read : (slots : List Slot) (i : ℕ) (d : Slot) → i < length slots → get_
 is_read slots i d inside = get_or_default slots i d (get_or slots i d) inside
 
 -- the next one keeps the order of its stand
-pub keeps_order : (out now : List StandSlots) (slots : List Slot) (i : ℕ) (d : Slot) → i < length slots → HasPlaceFor out slots → IsPutSoFar out slots i now
+pub keeps_order : (out now : List StandSlots) (slots : List Slot) (i : ℕ) (d : Slot) → i < length slots → CanHold out slots → IsPutSoFar out slots i now
     → KeepsOrder (slice_index_or slots i d) (at_stand now (slice_index_or slots i d).stand)
 keeps_order out now slots i d inside place so_far = λ planned k e below.
     let x : Slot = slice_index_or slots i d in
@@ -231,7 +231,7 @@ room_next now after slots i d inside room spare others stand =
     ]
 
 -- once it is put in, this many more are
-pub put_next : (out now after : List StandSlots) (slots : List Slot) (i : ℕ) (d : Slot) → i < length slots → HasPlaceFor out slots → IsPutSoFar out slots i now
+pub put_next : (out now after : List StandSlots) (slots : List Slot) (i : ℕ) (d : Slot) → i < length slots → CanHold out slots → IsPutSoFar out slots i now
     → AddsSlot (at_stand now (slice_index_or slots i d).stand) (at_stand after (slice_index_or slots i d).stand) (slice_index_or slots i d)
     → KeepsOtherStands now after (slice_index_or slots i d).stand → IsPutSoFar out slots (i + 1) after
 put_next out now after slots i d inside place so_far adds others =

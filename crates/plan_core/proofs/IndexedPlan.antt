@@ -17,7 +17,7 @@ use Rattle.visit_book.specs.Slots.{slots_of}
 use Rattle.visit_book.specs.WellFormed.{IsWellFormed}
 use Rattle.plan_core.specs.declared.drafts.Drafted.{Drafted}
 use Rattle.plan_core.specs.Indexed.{IsIndexed, IsIndexedPlan}
-use Rattle.plan_core.specs.Indexing.{HasPlaceFor, HaveStandsOf, KeepsRoom, is_off_visits, numbers_of}
+use Rattle.plan_core.specs.Indexing.{CanHold, HaveStandsOf, KeepsRoom, is_off_visits, numbers_of}
 use Rattle.plan_core.specs.PlanState.{ChangeState, IsInstallable, IsPlan, IsVisitAt, PlanState, empty_plan, is_on, plan_after_change, put_in}
 use Rattle.plan_core.proofs.IndexedIn.{can_index}
 use Rattle.plan_core.proofs.IndexedOrder.{numbered_rises, slots_ordered, slots_rise}
@@ -129,10 +129,10 @@ merged plan change h fits = merged_put (length plan.visits) plan.visits change.v
 
 -- there is place for the new slots of the change
 pub install_place : (plan : PlanState) (change : ChangeState) (index out : List StandSlots) → IsIndexedPlan plan index → IsInstallable plan change
-    → ((stand : StandNo) → count_by (is_on stand) change.slots ≤ (at_stand index stand).spare) → IsTakenOut plan change index out → HasPlaceFor out change.slots
+    → ((stand : StandNo) → count_by (is_on stand) change.slots ≤ (at_stand index stand).spare) → IsTakenOut plan change index out → CanHold out change.slots
 install_place plan change index out h fits room taken =
     let a = plan.airport in
-    subst (HasPlaceFor out) (sym fits.slots)
+    subst (CanHold out) (sym fits.slots)
     (can_index a index out plan.visits change.visits (put_in plan.visits change.visits) (length plan.visits + 2) h.indexed (merged plan change h.plan_is fits) h.plan_is.numbered
     (formed plan h.plan_is) (λ k d inside. (fits.each k d inside).well_formed) fits.rise fits.sound (left_is plan change index out h taken) taken.room.stands
     (λ stand. omega (arith, room stand, taken.room.spare stand, ap (λ (xs : List Slot). count_by (is_on stand) xs) fits.slots)))

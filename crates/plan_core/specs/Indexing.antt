@@ -58,10 +58,10 @@ AreApart slot other =
     → other.actual ≡ false
     → IsEarlier slot other ⊎ IsEarlier other slot
 
--- there is place for the slots in an index: each has one of its stands and at least one minute;
+-- an index can hold the slots: each has one of its stands and at least one minute;
 -- planned ones meet on no stand, neither one another nor those that are there; and each stand has
 -- room for as many slots as are on it
-pub record HasPlaceFor (index : List StandSlots) (slots : List Slot) : Type 0 where
+pub record CanHold (index : List StandSlots) (slots : List Slot) : Type 0 where
   pub stands : All (λ slot. slot.stand.0 < length index) slots
   pub minutes : All HasMinutes slots
   pub among : AllPairs AreApart slots

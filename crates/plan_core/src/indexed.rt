@@ -12,7 +12,7 @@ ghost use Rattle.visit_book.specs.Places.{stand_of};
 ghost use Rattle.visit_book.specs.Slots.{slots_of};
 ghost use Rattle.visit_book.specs.WellFormed.{IsWellFormed};
 ghost use Rattle.plan_core.specs.Indexed.{IsIndexed};
-ghost use Rattle.plan_core.specs.Indexing.{HasPlaceFor, HaveStandsOf, KeepsRoom, is_off, is_off_parts, is_off_visit, is_off_visits, numbers_of};
+ghost use Rattle.plan_core.specs.Indexing.{CanHold, HaveStandsOf, KeepsRoom, is_off, is_off_parts, is_off_visit, is_off_visits, numbers_of};
 ghost use Rattle.plan_core.specs.PlanState.{is_on, visit_number};
 ghost use Rattle.plan_core.specs.Working.{replace_visits};
 
@@ -94,7 +94,7 @@ fn take_out_part(index: &mut StandIndex, part: PartId, place: &Place)
 /// stand, neither with one another nor with those that are there. It takes no memory.
 pub(crate) fn put_in(index: &mut StandIndex, slots: &[Slot])
     requires index { IsIndex index.old }
-    requires place { HasPlaceFor index.old slots.now }
+    requires holds { CanHold index.old slots.now }
     ensures slots { IsPermutation (all_slots index.old ++ slots.now) (all_slots index.new) }
     ensures index { IsIndex index.new }
     ensures stands { length index.new ≡ length index.old }

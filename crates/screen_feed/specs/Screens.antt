@@ -58,7 +58,7 @@ after_show writer sheet = record writer {
 abbrev pub after_lack : WriterState → WriterState
 after_lack writer = record writer { unmade = one_more writer.unmade }
 
--- so many sheets a writer begins and shows at most, each show counted with its beginning
+-- the most sheets that a writer begins or shows: each counts when it begins, and when it is shown
 abbrev pub most_entries : ℕ
 most_entries = 2 ^ 60
 

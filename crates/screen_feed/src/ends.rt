@@ -7,7 +7,7 @@ ghost use Rattle.screen_feed.specs.Sheets.{AreAmong, AreSheets, Begins, IsLast, 
 use crate::appender::Appender;
 use crate::book::Log;
 use crate::sheet::{Sheet, Unmade};
-use crate::steps::{Front, WriterSide, look_at, page_of, pair_of, publish};
+use crate::steps::{Sight, WriterSide, look_at, page_of, pair_of, publish};
 use apron_base::Memory;
 use apron_rules::Airport;
 use core::mem::replace_with;
@@ -57,7 +57,7 @@ impl Model for ScreenWriter {
 /// told, and what its last look gave.
 #[derive(Drop)]
 pub struct Screen {
-    front: Front,
+    sight: Sight,
     told: Log,
     round: u64,
     airport: Snapshot<Airport>,
@@ -79,14 +79,14 @@ impl Model for Screen {
     ghost view = { λ s. record {
       pair = s.told.book;
       shown = record { airport = s.airport.value; day = s.day };
-      seen = sheets_seen (view_of s.front.side.place);
+      seen = sheets_seen (view_of s.sight.side.place);
       told = shown_in s.told.log;
-      given = option_map (λ given. result_ok given.value) s.front.given;
+      given = option_map (λ given. result_ok given.value) s.sight.given;
     } };
 
-    ghost invariant = { λ s. IsScreenAt (view_of s.front.side.place)
-        (record { airport = s.airport.value; day = s.day }) s.told.book s.front.seen.log
-        × (s.front.seen.book ≡ s.told.book) × (s.round ≡ length s.told.log) };
+    ghost invariant = { λ s. IsScreenAt (view_of s.sight.side.place)
+        (record { airport = s.airport.value; day = s.day }) s.told.book s.sight.seen.log
+        × (s.sight.seen.book ≡ s.told.book) × (s.round ≡ length s.told.log) };
 }
 
 /// What a writer tells. Contracts see the writer's pair, and the list that it had.
@@ -134,7 +134,7 @@ impl ScreenWriter {
         let (writer_side, side) = pair_of(rt, alloc, page)?;
         appender.confirm(&sheet);
         let screen = Screen {
-            front: Front::new(side, seen),
+            sight: Sight::new(side, seen),
             told: appender.seen(),
             round: appender.round(),
             airport: Snapshot::of(airport),
@@ -246,7 +246,7 @@ impl ScreenWriter {
         ensures same { self.new ≡ self.old }
         ensures seen { AreAmong screen.now.seen self.old.tried }
     {
-        self.appender.knows(screen.front.seen());
+        self.appender.knows(screen.sight.seen());
     }
 
     /// Ends the writer, and takes what its screen looks at. It may wait for a screen that is
@@ -290,7 +290,7 @@ impl Screen {
     {
         let told = &self.told;
         let round = self.round;
-        let looked = replace_with(&mut self.front, (), |front, ()| look_at(front, told, round));
+        let looked = replace_with(&mut self.sight, (), |sight, ()| look_at(sight, told, round));
         looked.ok().ok_or(Memory)
     }
 }

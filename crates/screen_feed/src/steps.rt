@@ -29,7 +29,7 @@ pub(crate) type ScreenSide = Reader<Page, Option<Page>, PairRule>;
 /// The screen's side, with what was known of the book as the page was begun that it has seen last,
 /// and, in proofs alone, what the last look gave. Only `look_at` sets this.
 #[derive(Drop)]
-pub(crate) struct Front {
+pub(crate) struct Sight {
     side: ScreenSide,
     seen: Log,
     given: Option<Snapshot<Result<Sheet, NoSheet>>>,
@@ -48,14 +48,14 @@ pub(crate) enum NoSheet {
     Owned(NoOwner),
 }
 
-impl Front {
+impl Sight {
     /// A side that has seen a page, at which nobody has looked.
-    pub fn new(side: ScreenSide, seen: Log) -> Front
+    pub fn new(side: ScreenSide, seen: Log) -> Sight
         ensures side { result.side ≡ side }
         ensures seen { result.seen ≡ seen }
         ensures given { result.given ≡ None }
     {
-        Front {
+        Sight {
             side,
             seen,
             given: None,
@@ -92,7 +92,7 @@ pub(crate) fn pair_of<R: Wait>(
     page: Page,
 ) -> Result<(WriterSide, ScreenSide), Memory>
     ensures desk { IfOk result (λ ends. ends.0.desk.shown.value ≡ page) }
-    ensures front { IfOk result (λ ends. view ends.1.place ≡ Some page) }
+    ensures side { IfOk result (λ ends. view ends.1.place ≡ Some page) }
 {
     let second = page.again()?;
     let end = WriterSide::new(alloc, page, second, 1)?;
@@ -101,12 +101,12 @@ pub(crate) fn pair_of<R: Wait>(
         end.take(rt);
         return Err(Memory);
     };
-    let Ok(mut front) = end.factory().reader() else {
+    let Ok(mut side) = end.factory().reader() else {
         end.take(rt);
         return Err(Memory);
     };
-    front.learn::<Tell>(end.tell::<Tell>());
-    Ok((end, front))
+    side.learn::<Tell>(end.tell::<Tell>());
+    Ok((end, side))
 }
 
 // The writer's side once the page is published.
@@ -171,27 +171,27 @@ fn sheet_at(page: &Page, told: &Log, round: u64) -> Result<Sheet, NoSheet>
 }
 
 /// The sheet that is shown, or why there is none.
-pub(crate) fn look_at(front: Front, told: &Log, round: u64) -> (Front, Result<Sheet, NoSheet>)
-    requires there { IsSome (view front.side.place) }
-    requires book { ForSome (view front.side.place) (λ page. page.book ≡ told.now.book) }
-    requires log { ForSome (view front.side.place)
-        (λ page. (page.book ≡ front.seen.book) × (page.log ≡ front.seen.log)) }
+pub(crate) fn look_at(sight: Sight, told: &Log, round: u64) -> (Sight, Result<Sheet, NoSheet>)
+    requires there { IsSome (view sight.side.place) }
+    requires book { ForSome (view sight.side.place) (λ page. page.book ≡ told.now.book) }
+    requires log { ForSome (view sight.side.place)
+        (λ page. (page.book ≡ sight.seen.book) × (page.log ≡ sight.seen.log)) }
     requires round { round ≡ length told.now.log }
-    ensures seen { HasLookedAt (view front.side.place) (view result.0.side.place) }
+    ensures seen { HasLookedAt (view sight.side.place) (view result.0.side.place) }
     ensures log { ForSome (view result.0.side.place)
         (λ page. (page.book ≡ result.0.seen.book) × (page.log ≡ result.0.seen.log)) }
     ensures last { IfOk result.1 (IsLast (sheets_seen (view result.0.side.place))) }
     ensures told { IfOk result.1
         (λ sheet. Begins (sheets_seen (view result.0.side.place)) (shown_in told.now.log)) }
     ensures given { option_map (λ given. given.value) result.0.given ≡ Some result.1 }
-    ensures none { IfErr result.1 (HasNoSheet told.now.log (view front.side.place)
+    ensures none { IfErr result.1 (HasNoSheet told.now.log (view sight.side.place)
         (view result.0.side.place)) }
 {
-    let Front {
+    let Sight {
         side,
         seen,
         given: _given,
-    } = front;
+    } = sight;
     match side.enter_as::<LookAtPage>() {
         Ok(reading) => {
             let page = reading.get();
@@ -199,12 +199,12 @@ pub(crate) fn look_at(front: Front, told: &Log, round: u64) -> (Front, Result<Sh
             let answer = sheet_at(page, told, round);
             let given = Some(Snapshot::of(&answer));
             let side = reading.leave();
-            (Front { side, seen, given }, answer)
+            (Sight { side, seen, given }, answer)
         }
         Err(side) => {
             let answer = Err(NoSheet::Closed);
             let given = Some(Snapshot::of(&answer));
-            (Front { side, seen, given }, answer)
+            (Sight { side, seen, given }, answer)
         }
     }
 }

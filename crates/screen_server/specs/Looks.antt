@@ -12,11 +12,13 @@ use Rattle.desk_workers.specs.declared.worker.WorkEnd.{WorkEnd}
 use Rattle.screen_feed.specs.Screens.{HasLooked, ScreenState}
 use Rattle.screen_feed.specs.Sheets.{IsLast, IsSheet, SheetState, last_version, sheet_of}
 
--- a screen that has seen the chart of the plan of a history on its day, and nothing else
+-- a screen that has seen the chart of the plan of a history on its day, and nothing else, and has
+-- not looked
 abbrev pub IsNewScreen : AirportParts → List Entry → ℕ → ScreenState → Type 0
 IsNewScreen airport history day screen =
     (screen.shown ≡ record { airport = airport; day = day })
     × (screen.seen ≡ sheet_of (replay airport history) day ∷ [])
+    × (screen.given ≡ None)
 
 -- a screen and the sink of a connection
 pub record ScreenAndSink : Type 0 where

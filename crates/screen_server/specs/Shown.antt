@@ -23,8 +23,9 @@ pub record ScreensLeft (In Out : Type 0) : Type 0 where
   pub history : List Entry
   pub end : WorkEnd
 
--- Workers of screens, each of which had seen the chart of the opened plan on the day of the task.
--- Each sheet that a screen has seen is the chart of a front of the history at the end.
+-- Workers of screens, each of which had seen the chart of the opened plan on the day of the task,
+-- and had not looked. Each sheet that a screen has seen is the chart of a front of the history at
+-- the end.
 pub record ShowsFrom {In Out : Type 0} (states : EndStates In Out) (opened : Opened) (task : Task)
     (before : List (ListenerState In Out)) (left : ScreensLeft In Out) : Type 0 where
   pub screens : List ScreenState

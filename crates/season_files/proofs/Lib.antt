@@ -1,4 +1,4 @@
-pub mod RecordWalk
+pub mod Places
 pub mod Plain
 pub mod Times
 pub mod TypeNames

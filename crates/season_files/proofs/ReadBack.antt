@@ -11,18 +11,18 @@ use Rattle.apron_rules.specs.Rules.{IsAirport, least_of}
 use Rattle.apron_rules.specs.declared.parts.AirportParts.{AirportParts}
 use Rattle.csv.specs.Machine.{next_record}
 use Rattle.csv.specs.Reading.{default_config, records_from, strip_bom}
-use Rattle.csv.specs.Records.{field_at}
 use Rattle.csv.specs.Writing.{default_writer, row_text}
 use Rattle.csv.specs.declared.parser.State.TheVariants as st
 use Rattle.csv.proofs.RoundTrip.{read-write-many}
+use Rattle.csv_records.specs.Tables.{each_from, rows_from, table_of}
 use Rattle.visit_book.specs.NewVisits.{HasFlight, IsNewVisitOf, is_in_time, is_key_in_time, new_of}
 use Rattle.visit_book.specs.WellFormed.{plan_end}
 use Rattle.visit_book.specs.declared.visits.Key.{Key}
 use Rattle.visit_book.specs.declared.visits.NewVisit.{NewVisit}
 use Rattle.visit_book.specs.declared.visits.Visit.{Visit}
 use Rattle.season_files.specs.Laws.{HasName, IsVisitOf, SeasonIsReadBack}
-use Rattle.season_files.specs.Records.{is_header, key_in, visit_in, visit_of_record}
-use Rattle.season_files.specs.Seasons.{season_in, visits_from, visits_of}
+use Rattle.season_files.specs.Records.{visit_of_fields}
+use Rattle.season_files.specs.Seasons.{season_in, visits_after}
 use Rattle.season_files.specs.Texts.{columns, is_uncancelled, line, season_of, season_text, visit_fields, visit_line}
 use Rattle.season_files.proofs.Lines.{header_row, plain-fields, visit_row}
 use Rattle.season_files.proofs.Numbers.{key-back, name-back, number-back, small-back}
@@ -31,8 +31,8 @@ use Rattle.season_files.proofs.TypeNames.{type-back, type_row}
 
 module _ (airport : AirportParts) (is : IsAirport airport) (named : All HasName airport.types) where
   -- the fields of a visit give that visit
-  visit-back : (new : NewVisit) → IsSeasonVisit airport new → visit_of_record airport (visit_fields airport new) ≡ Some new
-  unfolding visit_in key_in field_at
+  visit-back : (new : NewVisit) → IsSeasonVisit airport new → visit_of_fields airport (visit_fields airport new) ≡ Some new
+  unfolding visit_of_fields
   visit-back new h =
       let times = times_of airport new h.of_airport.in_time in
       let row = type_row airport new.kind named h.of_airport.kind in
@@ -63,8 +63,8 @@ module _ (airport : AirportParts) (is : IsAirport airport) (named : All HasName 
       rw (← visit_row airport new (plain-fields airport is new row.0 all.0 row.1), read-write-many _ _ _ (flat_map (visit_line airport) visits))
       (ap (λ more. visit_fields airport new ∷ more) (lines-back visits n all.1 (omega arith)))
 
-  visits-back : (visits : List NewVisit) (k : ℕ) → AllByRecursion (IsSeasonVisit airport) visits → visits_from airport k (map (visit_fields airport) visits) ≡ Ok visits
-  unfolding visits_from
+  visits-back : (visits : List NewVisit) (k : ℕ) → AllByRecursion (IsSeasonVisit airport) visits → rows_from (visit_of_fields airport) k (map (visit_fields airport) visits) ≡ Ok visits
+  unfolding each_from
   visits-back [] k all = refl
   visits-back (new ∷ visits) k all = rw (visit-back new all.0, visits-back visits (k + 1) all.1) refl
 
@@ -76,10 +76,6 @@ unfolding visit_line
 lines-length airport [] = omega arith
 lines-length airport (new ∷ visits) =
     omega (arith, length-append (visit_line airport new) (flat_map (visit_line airport) visits), some_bytes (visit_fields airport new), lines-length airport visits)
-
-header-is : is_header columns ≡ true
-unfolding is_header field_at
-header-is = refl
 
 no_mark : (lines : List ℕ) → strip_bom (line columns ++ lines) ≡ line columns ++ lines
 unfolding strip_bom
@@ -98,9 +94,9 @@ text-length : (airport : AirportParts) (visits : List NewVisit) → length visit
 unfolding season_text
 text-length airport visits = omega (arith, length-append (line columns) (flat_map (visit_line airport) visits), lines-length airport visits)
 
-header-first : (airport : AirportParts) (rows : List (List (List ℕ))) → visits_of airport (columns ∷ rows) ≡ visits_from airport 2 rows
-unfolding visits_of
-header-first airport rows = rw header-is refl
+header-first : (airport : AirportParts) (rows : List (List (List ℕ))) → table_of (visits_after airport) (columns ∷ rows) ≡ rows_from (visit_of_fields airport) 2 rows
+unfolding table_of
+header-first airport rows = refl
 
 text-back : (airport : AirportParts) (visits : List NewVisit) → IsAirport airport → All HasName airport.types → AllByRecursion (IsSeasonVisit airport) visits → season_in airport (season_text airport visits) ≡ Ok visits
 text-back airport visits is named all =

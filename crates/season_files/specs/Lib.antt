@@ -1,5 +1,6 @@
 pub mod Records
+pub mod Fields
+pub mod Texts
 pub mod Seasons
 pub mod CsvWriting
-pub mod Texts
 pub mod Laws

@@ -3,7 +3,8 @@ ghost use Rattle.std.specs.Prelude.{◌≡◌, ◌≤◌, ◌<◌, ◌+◌, IfSo
 ghost use Rattle.csv.specs.Records.{fields_of};
 ghost use Rattle.visit_book.specs.NewVisits.{HasFlight, IsNewVisitOf};
 ghost use Rattle.visit_book.specs.WellFormed.{greatest_class};
-ghost use Rattle.season_files.specs.Records.{class_in, heads_flights, heads_visit, if_name, is_field, is_header, key_in, key_named, key_with, name_in, number_in, number_named, small_named, type_in, type_named, visit_in, visit_of_record};
+ghost use Rattle.season_files.specs.Fields.{class_in, heads_flights, heads_visit, is_field, is_header, key_in, name_in, number_in, type_in, visit_in, visit_of_record};
+ghost use Rattle.season_files.specs.Records.{if_name, key_named, key_with, number_named, small_named, type_named};
 
 use apron_base::{Name, TypeNo, number_of};
 use apron_rules::Airport;
@@ -21,7 +22,7 @@ pub(crate) const MAX_NUMBER_DIGITS: usize = 9;
 const GREATEST_CLASS: u8 = 9;
 
 /// Whether a record is the header.
-#[tactic(auto, unfolding(crate::specs::Records::is_header))]
+#[tactic(auto, unfolding(crate::specs::Fields::is_header))]
 pub(crate) fn is_header(row: &ByteRecord) -> bool
     ensures is { result ≡ is_header (fields_of row.now) }
 {
@@ -70,7 +71,7 @@ pub(crate) fn visit_of_record(airport: &Airport, row: &ByteRecord) -> Option<New
     }
 }
 
-#[tactic(auto, unfolding(crate::specs::Records::visit_in))]
+#[tactic(auto, unfolding(crate::specs::Fields::visit_in))]
 fn visit_in(airport: &Airport, row: &ByteRecord) -> Option<NewVisit>
     ensures value { result ≡ visit_in airport.now (fields_of row.now) }
     ensures new { IfSome result (IsNewVisitOf airport.now) }
@@ -160,7 +161,7 @@ fn if_small(text: &[u8], most: u8) -> Option<u8>
 }
 
 // The key of the two fields from this place on: `Some(None)` if both are empty.
-#[tactic(auto, unfolding(crate::specs::Records::key_in))]
+#[tactic(auto, unfolding(crate::specs::Fields::key_in))]
 fn key_in(row: &ByteRecord, i: usize) -> Option<Option<Key>>
     requires place { i < COLUMNS }
     ensures value { result ≡ key_in (fields_of row.now) i }

@@ -28,6 +28,12 @@ block_at xs number k d inside =
     let short : k < 64 = omega (arith, block_length xs number) in
     get_or-take 64 (drop (number * 64) xs) k d short ∙ get_or-drop (number * 64) xs k d
 
+-- its first slot
+pub block_first : (xs : List Slot) (number : ℕ) (d : Slot) → number * 64 < length xs → get_or (block xs number) 0 d ≡ get_or xs (number * 64) d
+block_first xs number d inside =
+    let n : number * 64 + 0 ≡ number * 64 = omega arith in
+    block_at xs number 0 d (omega (arith, block_length xs number)) ∙ ap (λ i. get_or xs i d) n
+
 -- the rest from a block on begins with it
 pub block_rest : (xs rest : List Slot) (number : ℕ) → rest ≡ drop (number * 64) xs → take (min (length rest) 64) rest ≡ block xs number
 unfolding block
@@ -84,8 +90,7 @@ first_starts xs number end slot order inside at = by (nat_lt slot.from end) refl
     by : (b : Bool) → nat_lt slot.from end ≡ b → list_any (slot_starts_before end) (block xs number) ≡ b
     by true is =
         let some : 0 < length (block xs number) = omega (arith, block_length xs number) in
-        let n : number * 64 + 0 ≡ number * 64 = omega arith in
-        let here : slot ≡ get_or (block xs number) 0 slot = at slot ∙ (ap (λ i. get_or xs i slot) (sym n) ∙ sym (block_at xs number 0 slot some)) in
+        let here : slot ≡ get_or (block xs number) 0 slot = at slot ∙ sym (block_first xs number slot inside) in
         let P : Slot → Type 0 = λ y. nat_lt y.from end ≡ true in
         list_any_at (slot_starts_before end) (block xs number) 0 slot some (subst P here is)
     by false is =

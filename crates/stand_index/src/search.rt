@@ -95,12 +95,13 @@ fn push_block_hits<L: Ledger>(
         ≡ hits.old.items ++ filter (is_hit from end) (block slots.now.slots number)) }
     ensures steps { steps.new ≤ steps.old + block_steps from end (block slots.now.slots number) }
 {
-    if !slots.is_reached(number, from, end, steps) {
+    let Some(slot) = slots.first_reached(number, from, end, steps) else {
         return Ok(());
-    }
+    };
+    push_hit(hits, slot, from, end)?;
     let count = slots.len();
     let first = number * BLOCK;
-    for place in 0..(count - first).min(BLOCK) {
+    for place in 1..(count - first).min(BLOCK) {
         push_hit(hits, slots.read(first + place, steps), from, end)?;
     }
     Ok(())

@@ -1,5 +1,5 @@
 // Slots of one kind on one stand.
-ghost use Rattle.std.specs.Prelude.{◌≡◌, ◌≤◌, ◌<◌, ◌+◌, ◌*◌, [], ℕ, OnOk, length, slice_index, slice_index_or, take, vec_len, vec_capacity, if◌then◌else◌};
+ghost use Rattle.std.specs.Prelude.{◌≡◌, ◌≤◌, ◌<◌, ◌+◌, ◌*◌, [], ℕ, IfSome, OnOk, is_some, length, slice_index, slice_index_or, take, vec_len, vec_capacity};
 ghost use Rattle.apron_base.specs.declared.slot.Slot.{Slot};
 ghost use Rattle.stand_index.specs.Blocks.{AreLastEnds, IsLastEnd, block, is_reached};
 ghost use Rattle.stand_index.specs.Slots.{IsByStart, insert_by_start, is_of_part, remove_part};
@@ -103,27 +103,29 @@ impl SlotList {
         self.ends.len()
     }
 
-    /// Whether a slot of this block, counted from 0, starts before `end`, and one ends after
-    /// `from`. It is a step if not: if so, the block's slots are read, and each of them is one.
-    pub(crate) fn is_reached<L: Ledger>(
+    /// The first slot of this block, counted from 0, if one of the block's slots starts before
+    /// `end`, and one ends after `from`. It is a step.
+    pub(crate) fn first_reached<L: Ledger>(
         &self,
         number: usize,
         from: Minute,
         end: Minute,
         steps: &mut Steps<L>,
-    ) -> bool
+    ) -> Option<Slot>
         requires inside { number * 64 < length self.now.slots }
-        ensures is { result ≡ is_reached from end (block self.now.slots number) }
-        ensures step { steps.new ≡ steps.old + (if result then 0 else 1) }
+        ensures reached { is_some result ≡ is_reached from end (block self.now.slots number) }
+        ensures first { IfSome result (λ slot. (default : Slot)
+            → slot ≡ slice_index_or self.now.slots (number * 64) default) }
+        ensures step { steps.new ≡ steps.old + 1 }
     {
-        let reached = self.reaches(number, from, end);
-        if !reached {
-            steps.tick();
+        steps.tick();
+        if !self.reaches(number, from, end) {
+            return None;
         }
-        reached
+        Some(self.slots[number * BLOCK])
     }
 
-    // The same, without a step.
+    // Whether a slot of this block starts before `end`, and one ends after `from`.
     fn reaches(&self, number: usize, from: Minute, end: Minute) -> bool
         requires inside { number * 64 < length self.now.slots }
         ensures is { result ≡ is_reached from end (block self.now.slots number) }

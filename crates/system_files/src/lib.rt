@@ -9,12 +9,12 @@ mod file_disk;
 mod file_shelf;
 mod locked_file;
 mod raw_file;
+mod reporting_stream;
 mod system_file;
-mod told_stream;
 
 pub use causes::{report_cause, report_meaning};
 pub use file_disk::FileDisk;
 pub use file_shelf::{FileShelf, Folder};
 pub use raw_file::RawFile;
+pub use reporting_stream::ReportingStream;
 pub use system_file::SystemFile;
-pub use told_stream::ToldStream;

@@ -1,5 +1,5 @@
-//! Seats, one for each worker, take turns at one machine, in any number of threads. The crate knows
-//! nothing of what the machine is asked.
+//! Threads take turns at one shared value that answers asks and keeps a history, a `Machine`: each
+//! has a seat, and each turn is a call with a number of its own. It knows nothing of what is asked.
 #![tactic(auto)]
 
 mod board;

@@ -15,7 +15,7 @@ use Rattle.desk_words.specs.declared.replies.Reply.{Reply}
 use Rattle.desk_words.specs.declared.replies.ReplyBody.TheVariants.{Ahead}
 use Rattle.history_core.specs.Answer.{ActsAs, Given, GivesAnswer, Replies, Sought, added_entries, ask_outcome, changes, keeper_fault, no_memory, replied, sought_of, told}
 use Rattle.history_core.specs.History.{call_of, replay}
-use Rattle.history_core.specs.Steps.{IsTaken, Stepped, TakenAs, accepted, ahead, full, refused, repeated}
+use Rattle.history_core.specs.Acceptance.{IsTaken, Stepped, TakenAs, accepted, ahead, full, refused, repeated}
 
 -- a history with one more entry, of a command that was asked for and is taken
 pub record HasGrown (airport : AirportParts) (before : List Entry) (call : ℕ) (what : What) (after : List Entry) : Type 0 where

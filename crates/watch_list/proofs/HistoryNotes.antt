@@ -19,7 +19,7 @@ use Rattle.history_core.specs.Board.{BoardHeld}
 use Rattle.history_core.specs.Bumped.{bumped_in, last_bumped}
 use Rattle.history_core.specs.History.{IsLegal, replay}
 use Rattle.history_core.specs.Opening.{IsReadOn, OpeningHeld}
-use Rattle.history_core.specs.Steps.{IsTaken, after_command, made_told}
+use Rattle.history_core.specs.Acceptance.{IsTaken, after_command, made_told}
 use Rattle.history_core.proofs.Bumps.{told_bumped}
 use Rattle.history_core.proofs.Happenings.{message_keeps, report_keeps}
 use Rattle.history_core.proofs.KeptVisits.{kept_length}

@@ -19,7 +19,7 @@ use Rattle.desk_words.specs.declared.replies.ReplyBody.TheVariants.{Ahead}
 use Rattle.history_core.specs.Answer.{ActsAs, Given, GivesAnswer, Replies, acted_from, added_entries, changes, keeper_fault, no_memory, replied, told}
 use Rattle.history_core.specs.History.{IsLegal, call_limit, call_of, replay}
 use Rattle.history_core.specs.Opening.{next_after, next_from}
-use Rattle.history_core.specs.Steps.{Stepped, TakenAs, accepted, ahead, full, refused, repeated, stepped_reply}
+use Rattle.history_core.specs.Acceptance.{Stepped, TakenAs, accepted, ahead, full, refused, repeated, stepped_reply}
 use Rattle.history_core.proofs.Legal.{front_legal}
 use Rattle.history_core.proofs.Openings.{answered_is_not_next, called_too_early}
 use Rattle.history_core.proofs.Replay.{taken_of}

@@ -1,5 +1,5 @@
-//! Watches: which of the parts that lost their stands are shown to a reader. It knows nothing of
-//! requests.
+//! Watches: named filters of the parts that lost their stands, and a board that answers a desk which
+//! asks for those that a watch picks, its feed. It knows nothing of requests.
 #![tactic(auto)]
 
 mod entry_notes;

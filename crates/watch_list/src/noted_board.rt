@@ -1,14 +1,10 @@
 // A board with the notes of its history: which parts lost their stands, and by which entries.
 ghost use Rattle.std.specs.Prelude.{◌≡◌, ◌≤◌, ◌<◌, ◌+◌, ◌++◌, ◌&&◌, [], length, None, IfErr, IfOk, IfSome, OnOk, if◌then◌else◌};
-ghost use Rattle.apron_base.specs.Counts.{Counts};
 ghost use Rattle.apron_base.specs.Keeper.{with_last};
-ghost use Rattle.apron_base.specs.Machine.{history_at_risk_of, is_fault};
 ghost use Rattle.plan_core.specs.PlanState.{IsPlan};
-ghost use Rattle.history_core.specs.Answer.{ActsAs, IsTold, ask_outcome};
-ghost use Rattle.history_core.specs.AtRisk.{LeavesAtRisk};
-ghost use Rattle.history_core.specs.Board.{entry_texts, machine_state};
+ghost use Rattle.history_core.specs.Board.{AsksBoard, entry_texts};
 ghost use Rattle.history_core.specs.Bumped.{last_bumped};
-ghost use Rattle.history_core.specs.History.{IsAskOf, IsLegal, call_limit, replay};
+ghost use Rattle.history_core.specs.History.{IsAskOf, IsLegal, call_limit};
 ghost use Rattle.history_core.specs.Opening.{CannotOpen, OpensBoard};
 ghost use Rattle.watch_list.specs.HistoryNotes.{HasNoteRoom, last_notes, may_bump, notes_of};
 ghost use Rattle.watch_list.specs.Notes.{notes_by};
@@ -103,19 +99,8 @@ impl<'a, K: Keeper> NotedBoard<'a, K> {
         requires valid { IsAskOf self.old.airport ask.now }
         requires next { self.old.next ≤ call }
         requires last { call < call_limit }
-        ensures acts { ActsAs self.old.airport self.old.history call ask.now
-            result self.new.history }
-        ensures airport { self.new.airport ≡ self.old.airport }
+        ensures asks { AsksBoard K.state self.old self.new call ask.now result }
         ensures next { self.new.next ≤ call + 1 }
-        ensures found { IsLegal self.old.airport self.old.history }
-        ensures legal { IsLegal self.new.airport self.new.history }
-        ensures faults { Counts (is_fault result) (K.state self.old.keeper).faults
-            (K.state self.new.keeper).faults }
-        ensures at_risk { LeavesAtRisk (history_at_risk_of (machine_state K.state self.old)) call
-            ask.now.what (is_fault result) (history_at_risk_of (machine_state K.state self.new)) }
-        ensures question { let plan = replay self.old.airport self.old.history in
-            IsTold (ask_outcome plan self.old.history ask.now)
-            → self.new.keeper ≡ self.old.keeper }
     {
         let entries = self.board.history().len();
         if make_room(&mut self.notes, self.board.plan(), &ask.what).is_err() {

@@ -1,11 +1,7 @@
 // A board with watches, and with the notes of its history, as a machine.
 ghost use Rattle.std.specs.Prelude.{◌≡◌, ◌≤◌, ◌<◌, ◌+◌, length, None, IfErr, IfOk, IfSome};
-ghost use Rattle.apron_base.specs.Counts.{Counts};
 ghost use Rattle.apron_base.specs.Histories.{Rises};
-ghost use Rattle.apron_base.specs.Machine.{history_at_risk_of, is_fault};
-ghost use Rattle.history_core.specs.Answer.{ActsAs, IsTold, ask_outcome};
-ghost use Rattle.history_core.specs.AtRisk.{LeavesAtRisk};
-ghost use Rattle.history_core.specs.Board.{machine_state};
+ghost use Rattle.history_core.specs.Board.{AsksBoard};
 ghost use Rattle.history_core.specs.History.{IsAskOf, IsLegal, call_limit, call_of, replay};
 ghost use Rattle.history_core.specs.Opening.{CannotOpen, OpensBoard};
 ghost use Rattle.watch_list.specs.HistoryNotes.{notes_of};
@@ -153,21 +149,9 @@ impl<'w, 'a, K: Keeper, R: Stated, T: NoteTest> WatchBoard<'w, 'a, K, R, T> {
         requires valid { IsAskOf self.old.board.airport ask.now }
         requires next { self.old.next ≤ call }
         requires last { call < call_limit }
-        ensures acts { ActsAs self.old.board.airport self.old.board.history call ask.now result
-            self.new.board.history }
-        ensures airport { self.new.board.airport ≡ self.old.board.airport }
+        ensures asks { AsksBoard K.state self.old.board self.new.board call ask.now result }
         ensures watches { self.new.watches ≡ self.old.watches }
         ensures next { self.new.next ≡ call + 1 }
-        ensures found { IsLegal self.old.board.airport self.old.board.history }
-        ensures legal { IsLegal self.new.board.airport self.new.board.history }
-        ensures faults { Counts (is_fault result) (K.state self.old.board.keeper).faults
-            (K.state self.new.board.keeper).faults }
-        ensures at_risk { LeavesAtRisk (history_at_risk_of (machine_state K.state self.old.board))
-            call ask.now.what (is_fault result)
-            (history_at_risk_of (machine_state K.state self.new.board)) }
-        ensures question { let board = self.old.board in
-            IsTold (ask_outcome (replay board.airport board.history) board.history ask.now)
-            → self.new.board.keeper ≡ board.keeper }
     {
         self.next = call + 1;
         self.noted.ask(alloc, call, ask)

@@ -1,7 +1,7 @@
 // A visit is cancelled.
 ghost use Rattle.std.specs.Prelude.{◌≡◌, IfOk};
 ghost use Rattle.desk_asks.specs.declared.asks.Command.TheVariants.{Cancel};
-ghost use Rattle.history_core.specs.Steps.{cancellable};
+ghost use Rattle.history_core.specs.Acceptance.{cancellable};
 ghost use Rattle.history_core.specs.Taking.{ComesTo};
 
 use super::{Taken, answer_unchanged, taken_with_body, takes_entry};

@@ -6,7 +6,7 @@ ghost use Rattle.visit_book.specs.Numbers.{IsNumbered};
 ghost use Rattle.visit_effects.specs.Effects.{live_of};
 ghost use Rattle.desk_asks.specs.declared.asks.Command.TheVariants.{Message};
 ghost use Rattle.bump_core.specs.Settled.{IsChanged};
-ghost use Rattle.history_core.specs.Steps.{visit_after_message};
+ghost use Rattle.history_core.specs.Acceptance.{visit_after_message};
 ghost use Rattle.history_core.specs.Taking.{ComesTo};
 
 use super::settling::settle_changed;

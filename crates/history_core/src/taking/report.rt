@@ -3,7 +3,7 @@ ghost use Rattle.std.specs.Prelude.{◌≡◌, IfOk};
 ghost use Rattle.visit_book.specs.Reports.{IsEventOf};
 ghost use Rattle.desk_asks.specs.declared.asks.Command.TheVariants.{Report};
 ghost use Rattle.bump_core.specs.Settled.{IsChanged};
-ghost use Rattle.history_core.specs.Steps.{denial_of, visit_after_report};
+ghost use Rattle.history_core.specs.Acceptance.{denial_of, visit_after_report};
 ghost use Rattle.history_core.specs.Taking.{ComesTo};
 
 use super::settling::settle_changed;

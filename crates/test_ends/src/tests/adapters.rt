@@ -4,7 +4,7 @@ ghost use Rattle.std.specs.Prelude.{◌≤◌, IfOk};
 use apron_base::{Failed, ReaderSource, Sink, Source, WriterSink};
 use std::io;
 use std::io::{ErrorKind, Read, Write};
-use system_files::ToldStream;
+use system_files::ReportingStream;
 
 // Gives or takes at most two bytes at each call, five in all. Its second call and its fourth flush
 // fail; a signal interrupts its third call and its second flush.
@@ -81,7 +81,7 @@ fn a_read_that_is_interrupted_is_made_again(rt: HostRuntime) {
 
 #[test]
 fn a_stream_whose_faults_are_said_reads_the_same(rt: HostRuntime) {
-    let stream = ToldStream::new(&rt, "a reader", NEW);
+    let stream = ReportingStream::new(&rt, "a reader", NEW);
     assert!(rt; gives(&mut ReaderSource::new(stream), &READS));
 }
 
@@ -111,6 +111,6 @@ fn a_piece_that_is_not_taken_or_not_flushed_fails(rt: HostRuntime) {
 
 #[test]
 fn a_stream_whose_faults_are_said_writes_the_same(rt: HostRuntime) {
-    let stream = ToldStream::new(&rt, "a writer", NEW);
+    let stream = ReportingStream::new(&rt, "a writer", NEW);
     assert!(rt; takes(&mut WriterSink::new(stream), &PUTS));
 }

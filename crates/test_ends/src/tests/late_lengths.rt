@@ -110,7 +110,7 @@ fn has_piece(bytes: &[u8], at: usize, piece: &[u8]) -> bool {
 // No old entry, and three new ones.
 const NEW: &[u8] = b"\0\x01\x01\0x\x01\x02\0yz\x01\x01\0w\0";
 
-// Three old entries, and no new part.
+// Three old entries, and no new section.
 const OLD: &[u8] = b"\x01\x01\0x\x01\x02\0yz\x01\x01\0w\0";
 
 // How many entries are found by an opening to read, by one to append, and in format 1.

@@ -2,7 +2,7 @@
 use apron_base::{Name, StandNo, TypeNo, VisitNo};
 use apron_rules::Airport;
 use desk_asks::Command;
-use entry_bytes::{EntryFault, decode_entry, encode_entry, lift_entry};
+use entry_bytes::{EntryFault, convert_entry, decode_entry, encode_entry};
 use mvt_grammar::{Clock, Flight, Mvt};
 use std::alloc::Global;
 use std::test::Fail;
@@ -500,7 +500,7 @@ fn messages_and_reports_that_name_no_desk_are_no_entries(rt: HostRuntime) -> Res
 }
 
 #[test]
-fn former_entries_are_lifted_to_those_of_no_desk(rt: HostRuntime) -> Result<(), Fail> {
+fn former_entries_are_converted_to_those_of_no_desk(rt: HostRuntime) -> Result<(), Fail> {
     let airport = airport(rt.alloc())?;
     let entries = [
         (ADDED, ADDED),
@@ -513,16 +513,16 @@ fn former_entries_are_lifted_to_those_of_no_desk(rt: HostRuntime) -> Result<(), 
         (CANCELLED, CANCELLED),
     ];
     for (former, wanted) in entries {
-        let Ok(lifted) = lift_entry(rt.alloc(), &airport, former) else {
-            return Err(Fail::new("an entry is lifted"));
+        let Ok(converted) = convert_entry(rt.alloc(), &airport, former) else {
+            return Err(Fail::new("an entry is converted"));
         };
-        assert!(rt; lifted.as_slice() == wanted, "of {former:?}");
+        assert!(rt; converted.as_slice() == wanted, "of {former:?}");
     }
     Ok(())
 }
 
 #[test]
-fn what_was_no_entry_is_not_lifted(rt: HostRuntime) -> Result<(), Fail> {
+fn what_was_no_entry_is_not_converted(rt: HostRuntime) -> Result<(), Fail> {
     let airport = airport(rt.alloc())?;
     let faults: [(&[u8], EntryFault); 13] = [
         (b"", EntryFault::BadField(0)),
@@ -549,7 +549,7 @@ fn what_was_no_entry_is_not_lifted(rt: HostRuntime) -> Result<(), Fail> {
         ),
     ];
     for (bytes, fault) in faults {
-        let found = lift_entry(rt.alloc(), &airport, bytes).err();
+        let found = convert_entry(rt.alloc(), &airport, bytes).err();
         assert_eq!(rt; found, Some(fault), "of {bytes:?}");
     }
     Ok(())

@@ -13,8 +13,8 @@ fn former_of_two(alloc: Global) -> Result<Vec<u8>, Memory> {
     journal(alloc, &DEMO, FORMAT_1, &[&[ADDS, PUTS]])
 }
 
-// The same in format 2: the old part stays, and the new one has the same entries, since their bytes
-// are alike in both formats.
+// The same in format 2: the old section stays, and the new one has the same entries, since their
+// bytes are alike in both formats.
 fn upgraded_of_two(alloc: Global) -> Result<Vec<u8>, Memory> {
     journal(alloc, &DEMO, FORMAT_2, &[&[ADDS, PUTS], &[ADDS, PUTS]])
 }
@@ -57,8 +57,8 @@ fn is_refused(alloc: Global) -> Result<bool, Memory> {
     Ok(former.len() == 132 && ended.is(OLD, 8) && ended.disk.bytes() == former.as_slice())
 }
 
-// An upgrade lifts it.
-fn is_lifted(alloc: Global) -> Result<bool, Memory> {
+// An upgrade converts it.
+fn is_converted(alloc: Global) -> Result<bool, Memory> {
     let former = former_of_two(alloc)?;
     let wanted = upgraded_of_two(alloc)?;
     let ended = ends_on(alloc, UPGRADE, &former, &[])?;
@@ -81,7 +81,7 @@ fn is_left(alloc: Global) -> Result<bool, Memory> {
 fn a_journal_of_format_1_is_refused_until_it_is_upgraded(rt: HostRuntime) -> Result<(), Fail> {
     let steps = [
         is_refused(rt.alloc())?,
-        is_lifted(rt.alloc())?,
+        is_converted(rt.alloc())?,
         is_left(rt.alloc())?,
     ];
     assert_eq!(rt; steps, [true; 3]);
@@ -96,7 +96,7 @@ fn an_upgraded_journal_has_its_entries(rt: HostRuntime) -> Result<(), Fail> {
     Ok(())
 }
 
-// On this image an upgrade succeeds, and the entries are then the lifted ones.
+// On this image an upgrade succeeds, and the entries are then the converted ones.
 fn succeeds(alloc: Global, image: &[u8], wanted: &[u8]) -> Result<bool, Memory> {
     let ended = ends_on(alloc, UPGRADE, image, &[])?;
     let is_told = ended.is(UPGRADED, 0) || ended.is(ALREADY, 0);

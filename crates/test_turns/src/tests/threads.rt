@@ -44,19 +44,19 @@ fn ask_both<P: DeskPort + Send, R: Threads + Sync>(
 ) -> (Verdict, Verdict)
     requires first { IsAskOf (P.airport_of one.old) asks.0.now }
     requires second { IsAskOf (P.airport_of two.old) asks.1.now }
-    ensures one { P.place one.new ≡ P.place one.old }
-    ensures two { P.place two.new ≡ P.place two.old }
+    ensures one { P.fixed one.new ≡ P.fixed one.old }
+    ensures two { P.fixed two.new ≡ P.fixed two.old }
 {
     let (first, second) = asks;
     join_mut(
         rt,
         &mut ||
             requires { IsAskOf (P.airport_of one.now) first.now }
-            ensures { P.place one.exit.now ≡ P.place one.entry.now }
+            ensures { P.fixed one.exit.now ≡ P.fixed one.entry.now }
         { verdict_of(one.ask(alloc, first)) },
         &mut ||
             requires { IsAskOf (P.airport_of two.now) second.now }
-            ensures { P.place two.exit.now ≡ P.place two.entry.now }
+            ensures { P.fixed two.exit.now ≡ P.fixed two.entry.now }
         { verdict_of(two.ask(alloc, second)) },
     )
 }

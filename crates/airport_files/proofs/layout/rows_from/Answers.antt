@@ -1,6 +1,6 @@
 use Rattle.std.proofs.Common.{sym, ◌∙◌}
 use Rattle.std.proofs.lemmas.Result.{err_from_is_err_and}
-use Rattle.airport_files.proofs.NumberWalk.{from_ok}
+use Rattle.csv_records.proofs.TableWalk.{from_ok}
 use Rattle.airport_files.proofs.RowWalk.{step-ok, step-err, step-end}
 use Rattle.airport_files.proofs.layout.rows_from.Goals as goal
 

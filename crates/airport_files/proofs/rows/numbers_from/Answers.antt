@@ -1,5 +1,6 @@
 use Rattle.std.proofs.Common.{sym, ◌∙◌, inr}
-use Rattle.airport_files.proofs.NumberWalk.{from_ok, step-ok, step-err, step-end}
+use Rattle.csv_records.proofs.TableWalk.{from_ok}
+use Rattle.airport_files.proofs.NumberWalk.{step-ok, step-err, step-end}
 use Rattle.airport_files.proofs.rows.numbers_from.Goals as goal
 
 pub loop-value-preserved : goal.loop-value-preserved

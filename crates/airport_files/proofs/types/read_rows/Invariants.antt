@@ -2,7 +2,7 @@ use Rattle.std.proofs.Common.{◌≡◌, ℕ, ◌+◌, ◌-◌, List, Some}
 use Rattle.csv.specs.declared.parser.State.{State}
 use Rattle.csv_records.specs.Reading.{IsReading}
 use Rattle.airport_files.specs.Table.{rows_left}
-use Rattle.airport_files.proofs.TableWalk.{joined}
+use Rattle.csv_records.proofs.TableWalk.{joined}
 use Rattle.airport_files.proofs.types.read_rows.Given as goal
 
 abbrev pub invariant-loop-k : goal.invariant-loop-k

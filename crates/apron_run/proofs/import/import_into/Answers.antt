@@ -1,36 +1,40 @@
 use Rattle.std.proofs.Common.{ℕ, List, Ok, refl, sym, ap, subst}
 use Rattle.history_core.specs.AtRisk.{read_entry_at_risk}
-use Rattle.apron_run.specs.Crash.{MeetsImportLeaving}
-use Rattle.apron_run.specs.Import.{ImportsSeason, Stores, stores_at}
-use Rattle.apron_run.specs.Journal.{KeepsHistory, journal_tells}
-use Rattle.apron_run.specs.Survival.{DiskStates, Survives}
-use Rattle.apron_run.proofs.Fronts.{stays_both}
+use Rattle.apron_run.specs.Import.{ImportsSeason}
+use Rattle.apron_run.specs.Journal.{KeepsHistory}
+use Rattle.apron_run.specs.Opened.{journal_tells}
+use Rattle.apron_run.specs.Survival.{Survives}
+use Rattle.apron_run.specs.World.{World, world_at}
+use Rattle.apron_run.specs.Carried.{MeetsImport}
 use Rattle.apron_run.proofs.Importing.{season_imported}
+use Rattle.apron_run.proofs.Serving.{opened_from, unopened_from}
 use Rattle.apron_run.proofs.import.import_into.Goals as goal
 
 pub returns : goal.returns
-returns g c =
-    let before : Stores = stores_at (g.F.Shelf.state c.args.shelf.now) (g.D.Disk.state c.args.disk) in
-    let after : Stores = stores_at (g.F.Shelf.state c.add_season-imported.new.shelf) (g.D.Disk.state c.close_board.result) in
-    let disk : DiskStates = record { before = g.N.OfFiles.begun; after = g.D.Disk.state c.close_board.result } in
-    let left = c.add_season-imported.new.board in
-    let imports : ImportsSeason c.args.files.now c.text.result.now before after c.add_season-imported.result =
-    season_imported (journal_tells g.D.Disk.state) c.args.files.now c.text.result.now before after c.in-Ok.board left
-    c.add_season-imported.result c.in-Ok.ensures.opened c.add_season-imported.ensures.adds c.add_season-imported.ensures.airport c.close_board.ensures.legal
-    (sym (ap (λ d. (g.D.Disk.state d).faults) c.close_board.ensures.disk))
-    (subst (λ (digests : List ℕ). KeepsHistory (record { airport = left.airport; digests = digests }) left.history
-    (read_entry_at_risk left.airport (journal_tells g.D.Disk.state left.keeper)) after.disk) (sym c.requires.digests) c.close_board.ensures.keeps) in
-    let survives : Survives c.args.files.now.digests imports.left.history imports.left.at_risk disk =
-    subst (λ (digests : List ℕ). Survives digests left.history (read_entry_at_risk left.airport (journal_tells g.D.Disk.state left.keeper)) disk)
-    (sym c.requires.digests) c.close_board.ensures.survives in
-    record {
-      meets = subst (λ (season : List ℕ). MeetsImportLeaving disk c.args.files.now season before after (Ok c.add_season-imported.result)) c.text.ensures.text (imports, survives);
-    }
+returns g c = record {
+  meets = λ source sink.
+      let before : World = world_at (g.F.Shelf.state c.args.shelf.now) source sink g.N.OfFiles.begun in
+      let after : World = world_at (g.F.Shelf.state c.add_season-imported.new.shelf) source sink (g.D.Disk.state c.close_board.result) in
+      let left = c.add_season-imported.new.board in
+      let imports : ImportsSeason c.args.files.now c.text.result.now before after c.add_season-imported.result =
+      season_imported (journal_tells g.D.Disk.state) c.args.files.now c.text.result.now before after c.in-Ok.board left
+      c.add_season-imported.result
+      (opened_from (journal_tells g.D.Disk.state) c.args.files.now g.N.OfFiles.begun (g.D.Disk.state c.args.disk) c.in-Ok.board c.requires.begun c.in-Ok.ensures.opened)
+      c.add_season-imported.ensures.adds c.add_season-imported.ensures.airport c.close_board.ensures.legal
+      (sym (ap (λ d. (g.D.Disk.state d).faults) c.close_board.ensures.disk))
+      (subst (λ (digests : List ℕ). KeepsHistory (record { airport = left.airport; digests = digests }) left.history
+      (read_entry_at_risk left.airport (journal_tells g.D.Disk.state left.keeper)) after.disk) (sym c.requires.digests) c.close_board.ensures.keeps)
+      (subst (λ (digests : List ℕ). Survives digests left.history (read_entry_at_risk left.airport (journal_tells g.D.Disk.state left.keeper)) before.disk after.disk)
+      (sym c.requires.digests) c.close_board.ensures.survives) in
+      subst (λ (season : List ℕ). MeetsImport c.args.files.now season before after (Ok c.add_season-imported.result)) c.text.ensures.text imports;
+}
 
 pub returns-in-Err : goal.returns-in-Err
 returns-in-Err g c = record {
-  meets = (
-    record { shelf = refl; disk = c.in-Err.ensures.refused },
-    stays_both g.N.OfFiles.begun (g.D.Disk.state c.args.disk) (g.D.Disk.state c.in-Err.disk) c.requires.begun c.in-Err.ensures.unwritten,
-  );
+  meets = λ source sink. record {
+    shelf = refl;
+    source = refl;
+    sink = refl;
+    uses = unopened_from c.args.files.now g.N.OfFiles.begun (g.D.Disk.state c.args.disk) (g.D.Disk.state c.in-Err.disk) c.requires.begun c.in-Err.why c.in-Err.ensures.refused;
+  };
 }

@@ -1,9 +1,10 @@
 use Rattle.std.proofs.Common.{◌≡◌, ◌∙◌, ℕ, false, Result, Ok, Err, inl, inr, refl, sym, ap, subst}
 use Rattle.apron_base.specs.Ends.{Puts, SinkState}
-use Rattle.apron_run.specs.Imported.{TellsImported, imported_line, status_of_imported}
+use Rattle.apron_run.specs.Imported.{imported_line, status_of_imported}
 use Rattle.apron_run.specs.Print.{Writes}
 use Rattle.apron_run.specs.Statuses.{exit_code}
 use Rattle.apron_run.specs.Words.{ends_before_import}
+use Rattle.apron_run.specs.Carried.{TellsImported}
 use Rattle.apron_run.specs.declared.imported.Imported.{Imported}
 use Rattle.apron_run.specs.declared.imported.Imported.TheVariants.{Whole, Spent, Memory}
 use Rattle.apron_run.specs.declared.status.Status.{Status}

@@ -1,5 +1,5 @@
-use Rattle.std.proofs.Common.{refl, rules, Ok, Err}
-use Rattle.apron_run.proofs.Fronts.{stays_same}
+use Rattle.std.proofs.Common.{rules, Ok, Err}
+use Rattle.apron_run.proofs.Fronts.{unwritten_same}
 use Rattle.apron_run.proofs.init.run_init.Goals as goal
 
 pub returns-in-Ok-clause-inits : goal.returns-in-Ok-clause-inits
@@ -7,4 +7,4 @@ returns-in-Ok-clause-inits g c = (Ok c.in-Ok.files, search rules, c.make_journal
 
 pub returns-in-Err-clause-inits : goal.returns-in-Err-clause-inits
 returns-in-Err-clause-inits g c =
-    (Err c.in-Err.fault, search rules, ((refl, c.print_fault.ensures.tells), stays_same (g.D.Disk.state c.args.disk.now)))
+    (Err c.in-Err.fault, search rules, (unwritten_same (g.D.Disk.state c.args.disk.now), c.print_fault.ensures.tells))

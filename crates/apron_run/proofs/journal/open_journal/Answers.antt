@@ -1,12 +1,11 @@
 use Rattle.apron_run.proofs.Fronts.{fronts_opened}
 use Rattle.apron_run.proofs.Headers.{opened_of}
-use Rattle.apron_run.proofs.Serving.{seen_fails}
 use Rattle.apron_run.proofs.journal.open_journal.Goals as goal
 
 pub returns-in-Err-clause-refused : goal.returns-in-Err-clause-refused
 returns-in-Err-clause-refused g c = record {
-  reads = let stays = c.in-Err.ensures.stays in stays.contents;
-  cause = seen_fails c.args.files.now.digests (g.D.Disk.state c.args.disk) (g.D.Disk.state c.in-Err.disk) c.in-Err.fault c.in-Err.ensures.refused;
+  stays = c.in-Err.ensures.stays;
+  cause = c.in-Err.ensures.refused;
 }
 
 pub new-requires : goal.new-requires
@@ -24,8 +23,8 @@ pub returns-in-Err-open_to_append-clause-refused : goal.returns-in-Err-open_to_a
 returns-in-Err-open_to_append-clause-refused g c =
     let met = c.in-Err-open_to_append in
     record {
-      reads = let stays = met.ensures.stays in stays.contents;
-      cause = seen_fails c.args.files.now.digests (g.D.Disk.state c.args.disk) (g.D.Disk.state met.disk) met.fault met.ensures.refused;
+      stays = met.ensures.stays;
+      cause = met.ensures.refused;
     }
 
 pub new-requires-in-Ok-open_to_append : goal.new-requires-in-Ok-open_to_append

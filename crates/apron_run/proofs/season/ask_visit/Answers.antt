@@ -24,16 +24,16 @@ returns-in-Reply-2-clause-stops g c =
     let bytes = c.in-Reply-2.field-0 in
     let call = c.next_call-call.ensures.value in
     let acts : ActsAs airport before.history before.next (asking new) (Replied bytes) after.history =
-    subst (λ (n : ℕ). ActsAs airport before.history n (asking new) (Replied bytes) after.history) call c.in-Reply-2.ensures.acts in
+    subst (λ (n : ℕ). ActsAs airport before.history n (asking new) (Replied bytes) after.history) call c.in-Reply-2.ensures.asks.acts in
     let next : after.next ≡ before.next + 1 = c.in-Reply-2.ensures.next ∙ ap (λ (n : ℕ). n + 1) call in
     let now : length c.history.result.now ≡ length after.history = ap length c.history.ensures.value in
     let was : length c.history-before.result.now ≡ length before.history = ap length c.history-before.ensures.value in
     let few : length after.history ≤ length before.history = omega (arith, c.if-before-history.false, now, was) in
     let plan : c.plan.result.now.plan ≡ replay airport after.history =
-    c.plan.ensures.replay ∙ ap (λ (a : AirportParts). replay a after.history) c.in-Reply-2.ensures.airport in
+    c.plan.ensures.replay ∙ ap (λ (a : AirportParts). replay a after.history) c.in-Reply-2.ensures.asks.airport in
     let risk : LeavesAtRisk (standing_at before) before.next (asking new).what false (standing_at after) =
-    subst (λ (n : ℕ). LeavesAtRisk (standing_at before) n (asking new).what false (standing_at after)) call c.in-Reply-2.ensures.at_risk in
+    subst (λ (n : ℕ). LeavesAtRisk (standing_at before) n (asking new).what false (standing_at after)) call c.in-Reply-2.ensures.asks.at_risk in
     err_by c.find_visit.result
-    (λ imported missing. stops_missing airport before after new bytes acts next c.in-Reply-2.ensures.faults risk number imported few
+    (λ imported missing. stops_missing airport before after new bytes acts next c.in-Reply-2.ensures.asks.faults risk number imported few
     (subst (λ (p : PlanState). IsMissing p new number imported) plan missing))
     c.find_visit.ensures.missing

@@ -6,20 +6,15 @@ use Rattle.journal_disk.specs.Switch.{HasSwitched}
 use Rattle.journal_disk.specs.declared.upgrade.Found.TheVariants.{Old}
 use Rattle.journal_disk.specs.declared.fault.JournalFault.{JournalFault}
 use Rattle.journal_disk.specs.declared.fault.JournalFault.TheVariants.{DiskFault}
-use Rattle.apron_run.specs.Upgrade.{HasLifted}
-use Rattle.apron_run.proofs.Upgraded.{IsFound, leaves_unopened, not_opened, stopped, upgraded}
+use Rattle.apron_run.specs.Converted.{HasConverted}
+use Rattle.apron_run.proofs.Upgraded.{IsFound, not_opened, stopped, upgraded}
 use Rattle.apron_run.proofs.upgrade.upgrade_disk.Goals as goal
 
 pub returns-in-Err : goal.returns-in-Err
 returns-in-Err g c =
     let before = g.D.Disk.state c.args.disk in
     let after = g.D.Disk.state c.in-Err.disk in
-    record {
-      meets = (
-        not_opened c.args.files.now before after c.in-Err.fault c.in-Err.ensures.refused c.in-Err.ensures.stays,
-        leaves_unopened c.args.files.now c.in-Err.fault (record { before = before; after = after }) c.in-Err.ensures.stays,
-      );
-    }
+    record { meets = not_opened c.args.files.now before after c.in-Err.fault c.in-Err.ensures.refused c.in-Err.ensures.stays }
 
 pub returns-in-Ok-switched : goal.returns-in-Ok-switched
 returns-in-Ok-switched g c =
@@ -34,12 +29,12 @@ returns-in-Ok-switched g c =
     let switch = c.switch-switched.ensures in
     let done : IfExposed opened (λ bytes. HasSwitched held.size new bytes after) =
     subst (λ (r : Result (Unit {0}) JournalFault). OnOk r (IfExposed opened (λ bytes. HasSwitched held.size new bytes after))) c.in-Ok-switched.is switch.switched in
-    let lifted : HasLifted files.airport held.entries new = subst (λ (es : List (List ℕ)). HasLifted files.airport es new) c.entries.ensures.entries
-    (subst (λ (es : List (List ℕ)). HasLifted files.airport c.entries.result.now es) (sym c.as_slice.ensures.items) c.in-Ok.ensures.lifted) in
+    let converted : HasConverted files.airport held.entries new = subst (λ (es : List (List ℕ)). HasConverted files.airport es new) c.entries.ensures.entries
+    (subst (λ (es : List (List ℕ)). HasConverted files.airport c.entries.result.now es) (sym c.as_slice.ensures.items) c.in-Ok.ensures.converted) in
     let counts : Counts false opened.faults after.faults =
     subst (λ (r : Result (Unit {0}) JournalFault). Counts (is_err r) opened.faults after.faults) c.in-Ok-switched.is switch.counts in
     record {
-      meets = upgraded files (g.D.Disk.state c.args.disk) opened after held.size held.entries new switch.size was stays switch.continues switch.crash done c.len.result lifted
+      meets = upgraded files (g.D.Disk.state c.args.disk) opened after held.size held.entries new switch.size was stays switch.continues switch.crash done c.len.result converted
           (g.met.D.Disk.reads c.switch-switched.result.1) (counts ∙ still) (c.len.ensures.count ∙ ap (λ (es : List (List ℕ)). length es) (sym c.as_slice.ensures.items));
     }
 
@@ -56,11 +51,11 @@ returns g c =
     let switch = c.switch-switched.ensures in
     let is : c.in-Err-switched.fault ≡ DiskFault =
     subst (λ (r : Result (Unit {0}) JournalFault). IfErr r (λ fault. fault ≡ DiskFault)) c.in-Err-switched.is switch.fault in
-    let lifted : HasLifted files.airport held.entries new = subst (λ (es : List (List ℕ)). HasLifted files.airport es new) c.entries.ensures.entries
-    (subst (λ (es : List (List ℕ)). HasLifted files.airport c.entries.result.now es) (sym c.as_slice.ensures.items) c.in-Ok.ensures.lifted) in
+    let converted : HasConverted files.airport held.entries new = subst (λ (es : List (List ℕ)). HasConverted files.airport es new) c.entries.ensures.entries
+    (subst (λ (es : List (List ℕ)). HasConverted files.airport c.entries.result.now es) (sym c.as_slice.ensures.items) c.in-Ok.ensures.converted) in
     let counts : Counts true opened.faults after.faults =
     subst (λ (r : Result (Unit {0}) JournalFault). Counts (is_err r) opened.faults after.faults) c.in-Err-switched.is switch.counts in
     record {
       meets = stopped files (g.D.Disk.state c.args.disk) opened after held.size held.entries new switch.size was stays switch.continues switch.crash c.in-Err-switched.fault is
-          lifted still counts;
+          converted still counts;
     }

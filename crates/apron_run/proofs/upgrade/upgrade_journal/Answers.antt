@@ -1,6 +1,5 @@
 use Rattle.std.proofs.Common.{rules, subst}
-use Rattle.apron_run.specs.UpgradeCrash.{UpgradesJournalLeaving}
-use Rattle.apron_run.specs.World.{sink_and_disk_at}
+use Rattle.apron_run.specs.Carried.{UpgradesJournal, sink_and_disk_at}
 use Rattle.apron_run.proofs.upgrade.upgrade_journal.Goals as goal
 
 pub returns-clause-upgrades : goal.returns-clause-upgrades
@@ -10,8 +9,7 @@ returns-clause-upgrades g c =
     let left = state c.upgrade_on-met.result.1.now in
     let before = sink_and_disk_at (g.W.Sink.state c.args.sink.now) old in
     let sink = g.W.Sink.state c.tell_upgrade.new.sink in
-    let meets = c.upgrade_on-met.ensures.meets in
-    let told : UpgradesJournalLeaving (record { before = old; after = left }) c.args.files.now before (sink_and_disk_at sink left) c.tell_upgrade.result =
-    (record { met = c.upgrade_on-met.result.0; meets = meets.0; tells = c.tell_upgrade.ensures.tells }, meets.1) in
-    subst (λ d. UpgradesJournalLeaving (record { before = old; after = state d }) c.args.files.now before (sink_and_disk_at sink (state d)) c.tell_upgrade.result)
+    let told : UpgradesJournal c.args.files.now before (sink_and_disk_at sink left) c.tell_upgrade.result =
+    record { met = c.upgrade_on-met.result.0; meets = c.upgrade_on-met.ensures.meets; tells = c.tell_upgrade.ensures.tells } in
+    subst (λ d. UpgradesJournal c.args.files.now before (sink_and_disk_at sink (state d)) c.tell_upgrade.result)
     (search rules) told

@@ -1,4 +1,4 @@
-use Rattle.std.proofs.Common.{◌<◌, ◌≡◌, ℕ, inl, inr, refl, subst, ⊎_elim}
+use Rattle.std.proofs.Common.{◌<◌, ℕ, inl, inr, refl, subst, ⊎_elim}
 use Rattle.std.proofs.lemmas.List.{length-map}
 use Rattle.desk_workers.specs.Watched.{feed_texts}
 use Rattle.apron_serve.specs.Board.{Service}
@@ -20,7 +20,6 @@ returns g c =
       usage = ensures.usage;
       usage_alone = ensures.usage_alone;
       complete = (note, ensures.complete);
-      crash = (note, ensures.crash);
       shelf_kept = ensures.shelf_kept;
       listeners_kept = ensures.listeners_kept;
       screens_kept = ensures.screens_kept;

@@ -1,17 +1,14 @@
 use Rattle.std.proofs.Common.{◌≡◌, ◌≤◌, ◌∙◌, ℕ, Option, None, length, map, refl, sym, ap, subst}
-use Rattle.std.specs.Prelude.{not}
+use Rattle.std.specs.Prelude.{is_some, not}
 use Rattle.std.proofs.lemmas.List.{length-map}
 use Rattle.desk_workers.specs.Watched.{feed_texts}
 use Rattle.apron_run.specs.Run.{KeptUnless}
 use Rattle.apron_run.specs.Statuses.{exit_code}
-use Rattle.apron_run.specs.Survival.{DiskStates}
-use Rattle.apron_run.specs.World.{disk_seen}
-use Rattle.apron_run.proofs.Fronts.{stays_same}
+use Rattle.apron_run.proofs.Fronts.{unwritten_same}
 use Rattle.apron_serve.specs.Board.{Service}
-use Rattle.apron_serve.specs.Crash.{ServeCrashesAs}
 use Rattle.apron_serve.specs.Orders.{Order, order_of}
 use Rattle.apron_serve.specs.OrdersShown.{order_shown}
-use Rattle.apron_serve.specs.Serve.{has_served, is_order, serve_ends_before_journal}
+use Rattle.apron_serve.specs.Serve.{has_served, serve_ends_before_journal}
 use Rattle.apron_serve.specs.World.{ServeWorld}
 use Rattle.apron_serve.proofs.Completing.{complete}
 use Rattle.apron_serve.proofs.Endings.{carried, refused}
@@ -26,7 +23,7 @@ returns-in-Some g c =
       listeners = map g.L.Workplace.state c.args.listeners.now;
       screens = map g.L.Workplace.state c.args.screens.now;
       sink = g.W.Sink.state c.args.sink.now;
-      disk = disk_seen (g.D.Disk.state c.args.disk);
+      disk = g.D.Disk.state c.args.disk;
       note = None;
     } in
     let after : ServeWorld _ _ = record {
@@ -34,10 +31,9 @@ returns-in-Some g c =
       listeners = map g.L.Workplace.state c.serve_files-status.new.listeners;
       screens = map g.L.Workplace.state c.serve_files-status.new.screens;
       sink = g.W.Sink.state c.serve_files-status.new.sink;
-      disk = disk_seen (g.D.Disk.state c.serve_files-status.result.1);
+      disk = g.D.Disk.state c.serve_files-status.result.1;
       note = c.serve_files-status.result.2;
     } in
-    let disk : DiskStates = record { before = g.D.Disk.state c.args.disk; after = g.D.Disk.state c.serve_files-status.result.1 } in
     let all = carried service (order_shown c.in-Some.order) asked before after c.serve_files-status.result.0 c.code.result c.in-Some.ensures.some
     (subst (λ (n : ℕ). 1 ≤ n) (sym (length-map c.args.listeners.now g.L.Workplace.state)) c.in-Some.ensures.few.0)
     c.in-Some.ensures.order c.code.ensures.value c.serve_files-status.ensures.serves in
@@ -49,15 +45,7 @@ returns-in-Some g c =
       usage = all.usage;
       usage_alone = all.usage_alone;
       complete = complete service asked before after _ all.serves all.failed;
-      crash = subst (λ (code : ℕ). ServeCrashesAs service disk asked before after code) (sym c.code.ensures.value)
-          (subst (λ (order : Option Order). ServeCrashesAs service disk order before after (exit_code c.serve_files-status.result.0)) c.in-Some.ensures.order
-          (record {
-            status = c.serve_files-status.result.0;
-            code_is = refl;
-            does = c.serve_files-status.ensures.crash.0;
-            leaves = c.serve_files-status.ensures.crash.1;
-          }));
-      shelf_kept = subst (λ (order : Option Order). KeptUnless (is_order order) c.args.shelf.now c.serve_files-status.new.shelf) c.in-Some.ensures.order tt;
+      shelf_kept = subst (λ (order : Option Order). KeptUnless (is_some order) c.args.shelf.now c.serve_files-status.new.shelf) c.in-Some.ensures.order tt;
       listeners_kept = subst (λ (code : ℕ). KeptUnless (has_served (length c.args.screens.now) code) c.args.listeners.now c.serve_files-status.new.listeners)
           (sym c.code.ensures.value) c.serve_files-status.ensures.listeners_kept;
       screens_kept = subst (λ (code : ℕ). KeptUnless (has_served (length c.args.screens.now) code) c.args.screens.now c.serve_files-status.new.screens)
@@ -75,13 +63,13 @@ returns-in-None g c =
       listeners = map g.L.Workplace.state c.args.listeners.now;
       screens = map g.L.Workplace.state c.args.screens.now;
       sink = g.W.Sink.state c.args.sink.now;
-      disk = disk_seen (g.D.Disk.state c.args.disk);
+      disk = g.D.Disk.state c.args.disk;
       note = None;
     } in
     let after : ServeWorld _ _ = record before { sink = g.W.Sink.state c.print_usage.new.sink } in
-    let disk : DiskStates = record { before = g.D.Disk.state c.args.disk; after = g.D.Disk.state c.args.disk } in
     let is_usage : c.code-in-None.result ≡ 2 = c.code-in-None.ensures.value ∙ ap exit_code c.print_usage.ensures.usage in
-    let all = refused service asked before after c.print_usage.result c.code-in-None.result refl c.in-None.ensures.order c.print_usage.ensures.usage
+    let all = refused service asked before after c.print_usage.result c.code-in-None.result refl
+    (record { listeners = refl; screens = refl; uses = unwritten_same (g.D.Disk.state c.args.disk); note = refl }) c.in-None.ensures.order c.print_usage.ensures.usage
     c.code-in-None.ensures.value c.print_usage.ensures.writes in
     record {
       headline = all.serves;
@@ -91,15 +79,7 @@ returns-in-None g c =
       usage = all.usage;
       usage_alone = all.usage_alone;
       complete = complete service asked before after _ all.serves all.failed;
-      crash = subst (λ (code : ℕ). ServeCrashesAs service disk asked before after code) (sym c.code-in-None.ensures.value)
-          (subst (λ (order : Option Order). ServeCrashesAs service disk order before after (exit_code c.print_usage.result)) c.in-None.ensures.order
-          (record {
-            status = c.print_usage.result;
-            code_is = refl;
-            does = (refl, c.print_usage.ensures.writes);
-            leaves = stays_same (g.D.Disk.state c.args.disk);
-          }));
-      shelf_kept = subst (λ (order : Option Order). KeptUnless (is_order order) c.args.shelf.now c.args.shelf.now) c.in-None.ensures.order refl;
+      shelf_kept = subst (λ (order : Option Order). KeptUnless (is_some order) c.args.shelf.now c.args.shelf.now) c.in-None.ensures.order refl;
       listeners_kept = subst (λ (code : ℕ). KeptUnless (has_served (length c.args.screens.now) code) c.args.listeners.now c.args.listeners.now) (sym is_usage) refl;
       screens_kept = subst (λ (code : ℕ). KeptUnless (has_served (length c.args.screens.now) code) c.args.screens.now c.args.screens.now) (sym is_usage) refl;
       disk_kept = subst (λ (code : ℕ). KeptUnless (not (serve_ends_before_journal code)) c.args.disk c.args.disk) (sym is_usage) refl;

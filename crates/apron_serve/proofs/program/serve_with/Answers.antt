@@ -1,17 +1,15 @@
 use Rattle.std.proofs.Common.{◌≡◌, ◌⊎◌, ◌∙◌, List, [], ◌++◌, Option, None, Some, length, map, ap, refl, sym, subst, true, false, ⊎_elim}
+use Rattle.std.specs.Prelude.{is_some}
 use Rattle.std.proofs.lemmas.List.{length-map}
 use Rattle.desk_workers.specs.Watched.{feed_texts}
 use Rattle.apron_run.specs.Run.{KeptUnless}
 use Rattle.apron_run.specs.Statuses.{exit_code}
-use Rattle.apron_run.specs.Survival.{DiskStates}
-use Rattle.apron_run.specs.World.{disk_seen}
 use Rattle.apron_run.specs.declared.status.Status.TheVariants.{Done, ListenerFault, Memory, Usage}
 use Rattle.shown_board.specs.Halls.{HallNoteState}
 use Rattle.apron_serve.specs.Board.{Service, has_missed}
 use Rattle.apron_serve.specs.Complete.{IsServeComplete}
-use Rattle.apron_serve.specs.Crash.{ServeCrashesAs}
 use Rattle.apron_serve.specs.Orders.{Order, order_of}
-use Rattle.apron_serve.specs.Serve.{HaveFinished, ServesAs, SomeFailed, has_served, is_order, is_screen_order}
+use Rattle.apron_serve.specs.Serve.{HaveFinished, ServesAs, SomeFailed, has_served, is_screen_order}
 use Rattle.apron_serve.specs.World.{ServeWorld}
 use Rattle.apron_serve.proofs.NoScreens.{as_many, no_screen_order, of_all, unnoted}
 use Rattle.apron_serve.proofs.program.serve_with.Goals as goal
@@ -27,13 +25,12 @@ returns g c =
     let served = c.serve_noted-code.new.listeners in
     let left = c.serve_noted-code.new.screens in
     let code = c.serve_noted-code.result.0 in
-    let disk : DiskStates = record { before = g.D.Disk.state c.args.disk; after = g.D.Disk.state c.serve_noted-code.result.1 } in
     let before : List L → List L → ServeWorld _ _ = λ olds screens. record {
       shelf = g.F.Shelf.state c.args.shelf.now;
       listeners = map state olds;
       screens = map state screens;
       sink = g.W.Sink.state c.args.sink.now;
-      disk = disk_seen (g.D.Disk.state c.args.disk);
+      disk = g.D.Disk.state c.args.disk;
       note = None;
     } in
     let after : Option HallNoteState → List L → List L → ServeWorld _ _ = λ note news left. record {
@@ -41,7 +38,7 @@ returns g c =
       listeners = map state news;
       screens = map state left;
       sink = g.W.Sink.state c.serve_noted-code.new.sink;
-      disk = disk_seen (g.D.Disk.state c.serve_noted-code.result.1);
+      disk = g.D.Disk.state c.serve_noted-code.result.1;
       note = note;
     } in
     let ensures = c.serve_noted-code.ensures in
@@ -77,9 +74,7 @@ returns g c =
       usage = ((λ is. ⊎_elim (λ none. none) (λ some. absurd (no_screen_order words (length c.args.listeners.now) some)) (usage_alone is)), usage);
       complete = all_unnoted (λ note olds screens news left.
           IsServeComplete (order_of words (length olds) (length screens)) (before olds screens) (after note news left) code) ensures.complete;
-      crash = all_unnoted (λ note olds screens news left.
-          ServeCrashesAs service disk (order_of words (length olds) (length screens)) (before olds screens) (after note news left) code) ensures.crash;
-      shelf_kept = all (λ olds screens news left. KeptUnless (is_order (order_of words (length olds) (length screens))) c.args.shelf.now c.serve_noted-code.new.shelf)
+      shelf_kept = all (λ olds screens news left. KeptUnless (is_some (order_of words (length olds) (length screens))) c.args.shelf.now c.serve_noted-code.new.shelf)
           ensures.shelf_kept;
       listeners_kept = all (λ olds screens news left. KeptUnless (has_served (length screens) code) olds news) ensures.listeners_kept;
       disk_kept = ensures.disk_kept;

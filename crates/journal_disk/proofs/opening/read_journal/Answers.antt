@@ -4,5 +4,5 @@ use Rattle.journal_disk.proofs.opening.read_journal.Goals as goal
 
 pub returns-clause-within : goal.returns-clause-within
 returns-clause-within g c =
-    let read = c.in_ok-part.ensures.read.1.read in
-    omega (arith, read.size_is, records_bound c.in_ok-part.part.records.entries.items read.sizes)
+    let read = c.in_ok-section.ensures.read.1.read in
+    omega (arith, read.size_is, records_bound c.in_ok-section.section.records.entries.items read.sizes)

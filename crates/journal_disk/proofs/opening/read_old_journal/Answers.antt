@@ -1,13 +1,13 @@
 use Rattle.std.proofs.Common.{ℕ, List, subst}
-use Rattle.journal_disk.specs.Opening.{IsOldPart}
-use Rattle.journal_disk.proofs.OpenedTexts.{part_bound}
+use Rattle.journal_disk.specs.Opening.{IsOldSection}
+use Rattle.journal_disk.proofs.OpenedTexts.{section_bound}
 use Rattle.journal_disk.proofs.Tells.{if_some}
 use Rattle.journal_disk.proofs.opening.read_old_journal.Goals as goal
 
 pub returns-clause-whole : goal.returns-clause-whole
 returns-clause-whole g c = if_some c.in_ok-found.found
-    (λ records part bytes told. subst (λ (text : List ℕ). IsOldPart text records.entries.items records.length) (c.in_ok-found.ensures.bytes bytes told) part)
+    (λ records section bytes told. subst (λ (text : List ℕ). IsOldSection text records.entries.items records.length) (c.in_ok-found.ensures.bytes bytes told) section)
     c.in_ok-found.ensures.read.1
 
 pub returns-clause-within : goal.returns-clause-within
-returns-clause-within g c = if_some c.in_ok-found.found (λ records part. part_bound _ records.entries.items records.length part) c.in_ok-found.ensures.read.1
+returns-clause-within g c = if_some c.in_ok-found.found (λ records section. section_bound _ records.entries.items records.length section) c.in_ok-found.ensures.read.1

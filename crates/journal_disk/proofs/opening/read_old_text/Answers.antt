@@ -7,7 +7,7 @@ use Rattle.journal_disk.specs.Opening.{IsReadJournal}
 use Rattle.std.proofs.lemmas.List.{take_rest}
 use Rattle.journal_disk.proofs.Fronts.{header_tested, old_opening}
 use Rattle.journal_disk.proofs.OpenedTexts.{old_records_fail}
-use Rattle.journal_disk.proofs.ReadTexts.{old_part}
+use Rattle.journal_disk.proofs.ReadTexts.{old_section}
 use Rattle.journal_disk.proofs.Tells.{if_err_is}
 use Rattle.journal_disk.proofs.opening.read_old_text.Goals as goal
 
@@ -34,4 +34,4 @@ returns-clause-whole c =
     let magic = header_tested c.args.digests.now text c.in_ok-test_header.ensures.passed in
     let long : first_gate ≤ length text = omega (arith, c.in_ok-test_header.ensures.long) in
     let read : IsReadJournal (drop first_gate text) c.in_ok-records.records.entries.items c.in_ok-records.records.length = rw (← take_rest text first_gate) c.in_ok-records.ensures.whole in
-    old_part text c.in_ok-records.records.entries.items c.in_ok-records.records.length long magic old read
+    old_section text c.in_ok-records.records.entries.items c.in_ok-records.records.length long magic old read

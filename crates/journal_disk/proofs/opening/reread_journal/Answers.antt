@@ -12,23 +12,23 @@ overflow_add-place g c = omega (arith, gate_within _ _ _ _ c.in_ok-text.ensures.
 
 pub overflow_sub-place : goal.overflow_sub-place
 overflow_sub-place g c =
-    let items = c.in_ok-text.part.records.entries.items in
+    let items = c.in_ok-text.section.records.entries.items in
     let last : c.last_record-last.result ≡ last_record items = c.last_record-last.ensures.length ∙ ap last_record c.deref.ensures.value in
     omega (arith, last, last_fits items, c.in_ok-text.ensures.read.1.read.size_is)
 
 pub overflow_add-last : goal.overflow_add-last
 overflow_add-last g c =
-    let items = c.in_ok-text.part.records.entries.items in
-    let part = c.in_ok-text.ensures.read.1 in
+    let items = c.in_ok-text.section.records.entries.items in
+    let section = c.in_ok-text.ensures.read.1 in
     let last : c.last_record-last.result ≡ last_record items = c.last_record-last.ensures.length ∙ ap last_record c.deref.ensures.value in
-    omega (arith, last, last_fits items, part.read.size_is, gate_within _ _ _ _ part)
+    omega (arith, last, last_fits items, section.read.size_is, gate_within _ _ _ _ section)
 
 pub write_back-requires-clause-inside : goal.write_back-requires-clause-inside
 write_back-requires-clause-inside g c =
-    let items = c.in_ok-text.part.records.entries.items in
-    let part = c.in_ok-text.ensures.read.1 in
+    let items = c.in_ok-text.section.records.entries.items in
+    let section = c.in_ok-text.ensures.read.1 in
     let last : c.last_record-last.result ≡ last_record items = c.last_record-last.ensures.length ∙ ap last_record c.deref.ensures.value in
-    omega (arith, last, last_fits items, part.read.size_is, gate_inside _ _ _ _ part, ap length c.deref-2.ensures.value)
+    omega (arith, last, last_fits items, section.read.size_is, gate_inside _ _ _ _ section, ap length c.deref-2.ensures.value)
 
 pub write_back-requires-clause-fits : goal.write_back-requires-clause-fits
 write_back-requires-clause-fits g c = omega (arith, gate_within _ _ _ _ c.in_ok-text.ensures.read.1)
@@ -36,16 +36,16 @@ write_back-requires-clause-fits g c = omega (arith, gate_within _ _ _ _ c.in_ok-
 pub returns-clause-within : goal.returns-clause-within
 returns-clause-within g c =
     let read = c.in_ok-text.ensures.read.1.read in
-    omega (arith, read.size_is, records_bound c.in_ok-text.part.records.entries.items read.sizes)
+    omega (arith, read.size_is, records_bound c.in_ok-text.section.records.entries.items read.sizes)
 
 pub returns-clause-again : goal.returns-clause-again
 returns-clause-again g c =
     let before = g.D.Disk.state c.args.disk.now in
-    let read = g.D.Disk.state c.read_part.new.disk in
+    let read = g.D.Disk.state c.read_section.new.disk in
     let after = g.D.Disk.state c.write_back.new.disk in
-    let place = c.in_ok-text.part.first + c.in_ok-text.part.records.length in
-    let items = c.in_ok-text.part.records.entries.items in
+    let place = c.in_ok-text.section.first + c.in_ok-text.section.records.length in
+    let items = c.in_ok-text.section.records.entries.items in
     let last : c.last_record-last.result ≡ last_record items = c.last_record-last.ensures.length ∙ ap last_record c.deref.ensures.value in
-    let tells = subst (λ (o : Option (List ℕ)). Between Any before.contents o) (sym c.read_part.ensures.stays.contents) (told_same before.contents) in
+    let tells = subst (λ (o : Option (List ℕ)). Between Any before.contents o) (sym c.read_section.ensures.stays.contents) (told_same before.contents) in
     does_both (DoneSync ∷ []) (safe_write (place - last_record items) (last_record items + 1)) before read after c.in_ok-text.ensures.done tells
     (subst (λ (n : ℕ). Does (safe_write (place - n) (n + 1)) read after) last c.in_ok-write_back.ensures.done)

@@ -7,17 +7,17 @@ use Rattle.plan_core.proofs.IndexedIn.{keeps_order, none_put, put_next, room_her
 use Rattle.plan_core.proofs.indexed.put_in.Goals as goal
 
 pub loop-slot-init : goal.loop-slot-init
-loop-slot-init c = none_put c.args.index.now c.args.slots.now c.requires.index c.requires.place
+loop-slot-init c = none_put c.args.index.now c.args.slots.now c.requires.index c.requires.holds
 
 pub insert-requires-clause-spare : goal.insert-requires-clause-spare
 insert-requires-clause-spare c = room_here c.args.index.now c.loop-slot.index c.args.slots.now c.loop-slot.slot-index _ c.loop-slot-test.true c.loop-slot.invariant
 
 pub insert-requires-clause-order : goal.insert-requires-clause-order
-insert-requires-clause-order c = keeps_order c.args.index.now c.loop-slot.index c.args.slots.now c.loop-slot.slot-index _ c.loop-slot-test.true c.requires.place c.loop-slot.invariant
+insert-requires-clause-order c = keeps_order c.args.index.now c.loop-slot.index c.args.slots.now c.loop-slot.slot-index _ c.loop-slot-test.true c.requires.holds c.loop-slot.invariant
 
 pub loop-slot-preserved : goal.loop-slot-preserved
 loop-slot-preserved c =
-    put_next c.args.index.now c.loop-slot.index c.insert.new.self c.args.slots.now c.loop-slot.slot-index _ c.loop-slot-test.true c.requires.place c.loop-slot.invariant
+    put_next c.args.index.now c.loop-slot.index c.insert.new.self c.args.slots.now c.loop-slot.slot-index _ c.loop-slot-test.true c.requires.holds c.loop-slot.invariant
     c.insert.ensures.slots c.insert.ensures.others
 
 pub returns-clause-slots : goal.returns-clause-slots

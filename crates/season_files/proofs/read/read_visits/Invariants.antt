@@ -3,7 +3,7 @@ use Rattle.csv.specs.declared.parser.State.{State}
 use Rattle.visit_book.specs.NewVisits.{IsNewVisitOf}
 use Rattle.csv_records.specs.Reading.{IsReading}
 use Rattle.season_files.specs.Seasons.{visits_left}
-use Rattle.season_files.proofs.RecordWalk.{joined}
+use Rattle.csv_records.proofs.TableWalk.{joined}
 use Rattle.season_files.proofs.read.read_visits.Given as goal
 
 abbrev pub invariant-loop-k : goal.invariant-loop-k

@@ -17,12 +17,12 @@ returns-clause-shows g c =
     let few : c.next_call-call.result ≤ call_limit = c.next_call-call.ensures.few in
     let last : before.next < call_limit = omega arith in
     let acts : ActsAs before.airport before.history before.next c.args.ask.now c.ask.result after.history =
-    subst (λ n. ActsAs before.airport before.history n c.args.ask.now c.ask.result after.history) call c.ask.ensures.acts in
+    subst (λ n. ActsAs before.airport before.history n c.args.ask.now c.ask.result after.history) call c.ask.ensures.asks.acts in
     let tells = g.K.Keeper.state in
     let risk : LeavesAtRisk (history_at_risk_of (machine_state tells before)) before.next c.args.ask.now.what (is_fault c.ask.result) (history_at_risk_of (machine_state tells after)) =
-    subst (λ n. LeavesAtRisk (history_at_risk_of (machine_state tells before)) n c.args.ask.now.what (is_fault c.ask.result) (history_at_risk_of (machine_state tells after))) call c.ask.ensures.at_risk in
+    subst (λ n. LeavesAtRisk (history_at_risk_of (machine_state tells before)) n c.args.ask.now.what (is_fault c.ask.result) (history_at_risk_of (machine_state tells after))) call c.ask.ensures.asks.at_risk in
     subst (λ (a : AloneHeld g.row.K.Denot). ShowsAsk AloneAsks a.board.airport (alone_port tells a) c.args.ask.now c.ask.result
     (alone_port tells (record { board = after; first = c.self.inside.first })))
     c.self.view_is
     (alone_shows before.airport (machine_state tells before) (machine_state tells after) c.self.inside.first c.args.ask.now c.ask.result c.self.invariant
-    (subst (λ airport. IsLegal airport after.history) c.ask.ensures.airport c.ask.ensures.legal) last acts (c.ask.ensures.next ∙ ap (λ n. n + 1) call) c.ask.ensures.faults risk)
+    (subst (λ airport. IsLegal airport after.history) c.ask.ensures.asks.airport c.ask.ensures.asks.legal) last acts (c.ask.ensures.next ∙ ap (λ n. n + 1) call) c.ask.ensures.asks.faults risk)

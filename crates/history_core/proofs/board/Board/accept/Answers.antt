@@ -10,7 +10,7 @@ use Rattle.history_core.specs.Answer.{is_keeper_fault}
 use Rattle.history_core.specs.Board.{BoardHeld}
 use Rattle.history_core.specs.Bumped.{bumped_in, last_bumped}
 use Rattle.history_core.specs.History.{replay}
-use Rattle.history_core.specs.Steps.{accepted, after_command, stepped_reply}
+use Rattle.history_core.specs.Acceptance.{accepted, after_command, stepped_reply}
 use Rattle.history_core.proofs.Boards.{IsNext, board_failed, board_pushed}
 use Rattle.history_core.proofs.Bumps.{told_bumped}
 use Rattle.history_core.proofs.Risks.{added_at_risk, failed_at_risk, fault_told, read_as, readied_at_risk}

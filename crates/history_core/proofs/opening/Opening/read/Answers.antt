@@ -5,7 +5,7 @@ use Rattle.desk_words.specs.declared.replies.Reply.{Reply}
 use Rattle.history_core.specs.declared.opening.OpenFault.TheVariants.{WrongEntry}
 use Rattle.history_core.specs.Bumped.{bumped_in}
 use Rattle.history_core.specs.Opening.{IsNotNext, OpeningHeld, not_read}
-use Rattle.history_core.specs.Steps.{after_command}
+use Rattle.history_core.specs.Acceptance.{after_command}
 use Rattle.history_core.specs.Taking.{ComesTo}
 use Rattle.history_core.specs.declared.taking.Taken.{Taken}
 use Rattle.history_core.specs.declared.taking.Taken.TheVariants.{Accepted, Answered}

@@ -1,7 +1,7 @@
 use Rattle.std.proofs.Common.{◌∙◌, ◌≤◌, arith, sym, subst}
 use Rattle.desk_asks.specs.declared.asks.Command.TheVariants.{Commit}
 use Rattle.desk_words.specs.declared.replies.ReplyBody.{ReplyBody}
-use Rattle.history_core.specs.Steps.{TakesEntry}
+use Rattle.history_core.specs.Acceptance.{TakesEntry}
 use Rattle.history_core.specs.Taking.{ComesTo, IsAnswered}
 use Rattle.history_core.proofs.Takings.{committed_finds, refused_answered, repeated_answered}
 use Rattle.history_core.proofs.taking.commit.take_commit.Goals as goal

@@ -4,8 +4,8 @@ use Rattle.journal_disk.proofs.Moments.{since_map}
 use Rattle.journal_disk.proofs.Switching.{either_is, has_switched}
 use Rattle.journal_disk.proofs.upgrade.OldJournal.switch.Goals as goal
 
-pub switch_parts-requires-clause-inside : goal.switch_parts-requires-clause-inside
-switch_parts-requires-clause-inside g c = λ bytes is. let part = c.self.invariant.part bytes is in part.inside
+pub switch_sections-requires-clause-inside : goal.switch_sections-requires-clause-inside
+switch_sections-requires-clause-inside g c = λ bytes is. let section = c.self.invariant.section bytes is in section.inside
 
 pub returns-in-Ok-clause-crash : goal.returns-in-Ok-clause-crash
 returns-in-Ok-clause-crash g c =
@@ -13,10 +13,10 @@ returns-in-Ok-clause-crash g c =
     let old = c.self.inside.entries.items in
     let new = c.args.entries.now in
     let before = g.D.Disk.state c.self.inside.disk in
-    let now = g.D.Disk.state c.switch_parts.new.disk in
+    let now = g.D.Disk.state c.switch_sections.new.disk in
     let safely : SwitchesSafely size old new before now = λ bytes is.
-    since_map before now (IsSwitching size new bytes) (IsEither size old new bytes) (c.switch_parts.ensures.crash bytes is (c.self.invariant.safe bytes is))
-    (either_is size old bytes (c.self.invariant.part bytes is) new c.requires.sizes c.requires.few) in
+    since_map before now (IsSwitching size new bytes) (IsEither size old new bytes) (c.switch_sections.ensures.crash bytes is (c.self.invariant.safe bytes is))
+    (either_is size old bytes (c.self.invariant.section bytes is) new c.requires.sizes c.requires.few) in
     rw (← c.self.view_is) safely
 
 pub returns-in-Ok-clause-switched : goal.returns-in-Ok-clause-switched
@@ -24,9 +24,9 @@ returns-in-Ok-clause-switched g c =
     let size = c.self.inside.size in
     let old = c.self.inside.entries.items in
     let new = c.args.entries.now in
-    let now = g.D.Disk.state c.switch_parts.new.disk in
+    let now = g.D.Disk.state c.switch_sections.new.disk in
     let switched : IfExposed (g.D.Disk.state c.self.inside.disk) (λ bytes. HasSwitched size new bytes now) = λ bytes is.
-    has_switched size old bytes (c.self.invariant.part bytes is) new c.requires.sizes c.requires.few now (c.in-Ok.ensures.switched bytes is) in
+    has_switched size old bytes (c.self.invariant.section bytes is) new c.requires.sizes c.requires.few now (c.in-Ok.ensures.switched bytes is) in
     rw (← c.self.view_is) switched
 
 pub returns-clause-crash : goal.returns-clause-crash
@@ -35,10 +35,10 @@ returns-clause-crash g c =
     let old = c.self.inside.entries.items in
     let new = c.args.entries.now in
     let before = g.D.Disk.state c.self.inside.disk in
-    let now = g.D.Disk.state c.switch_parts.new.disk in
+    let now = g.D.Disk.state c.switch_sections.new.disk in
     let safely : SwitchesSafely size old new before now = λ bytes is.
-    since_map before now (IsSwitching size new bytes) (IsEither size old new bytes) (c.switch_parts.ensures.crash bytes is (c.self.invariant.safe bytes is))
-    (either_is size old bytes (c.self.invariant.part bytes is) new c.requires.sizes c.requires.few) in
+    since_map before now (IsSwitching size new bytes) (IsEither size old new bytes) (c.switch_sections.ensures.crash bytes is (c.self.invariant.safe bytes is))
+    (either_is size old bytes (c.self.invariant.section bytes is) new c.requires.sizes c.requires.few) in
     rw (← c.self.view_is) safely
 
 pub returns-in-Ok-clause-size : goal.returns-in-Ok-clause-size

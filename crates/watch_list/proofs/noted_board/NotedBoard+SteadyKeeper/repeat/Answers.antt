@@ -15,4 +15,4 @@ pub returns-in-Reply-clause-last : goal.returns-in-Reply-clause-last
 returns-in-Reply-clause-last c =
     let old = c.args.self.now in
     next_taken old.airport old.history c.args.entry.now c.requires.legal c.ask.new.self.history c.in_ok-copy.field-0 c.ask.result c.in-Reply.field-0
-    c.in_ok-copy.ensures.same c.in-Reply.is c.ask.ensures.acts
+    c.in_ok-copy.ensures.same c.in-Reply.is c.ask.ensures.asks.acts

@@ -9,6 +9,6 @@ invariant_of-self g c =
     let up = subst (λ (held : WatchHeld g.row.K.Denot g.row.R.Denot). held.next ≤ c.args.call) (sym c.self.view_is) c.requires.next in (
       c.ask.ensures.next,
       numbers_left inside.noted.airport inside.noted.history c.args.call c.args.ask.now c.ask.new.self.history c.ask.result inside.next
-          c.ask.ensures.acts c.self.invariant.1 up,
+          c.ask.ensures.asks.acts c.self.invariant.1 up,
       omega (arith, c.requires.last),
     )
