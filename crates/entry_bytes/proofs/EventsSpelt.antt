@@ -1,35 +1,28 @@
--- What happened to a visit is read exactly as it is spelt.
-use Rattle.std.proofs.Common.{◌≡◌, ℕ, cond, subst, ◌^◌, ◌<◌, List, [], ◌∷◌, ◌++◌, length, Some, None, refl, sym, ap, ◌∙◌, arith}
+-- What happened to a visit is read exactly from its fields.
+use Rattle.std.proofs.Common.{◌≡◌, ℕ, cond, subst, ◌<◌, List, [], ◌∷◌, Some, None, refl, sym, ap, ◌∙◌, arith}
 use Rattle.std.specs.Prelude.{◌==◌, IsSome}
-use Rattle.std.specs.Int.{w16, w32, to_le_bytes}
+use Rattle.std.specs.Int.{w8, w32}
 use Rattle.std.proofs.lemmas.Bool.{eqb-true}
 use Rattle.apron_base.specs.declared.numbers.StandNo.{StandNo}
 use Rattle.apron_rules.specs.declared.parts.AirportParts.{AirportParts}
-use Rattle.visit_book.specs.Reports.{IsEventOf}
 use Rattle.visit_book.specs.declared.reports.Event.{Event}
 use Rattle.visit_book.specs.declared.reports.Event.TheVariants.{On, Off}
 use Rattle.entry_bytes.specs.declared.faults.EntryFault.TheVariants.{BadField}
-use Rattle.entry_bytes.specs.Reports.{event_of, event_text, parse_event, parse_off, parse_on}
-use Rattle.entry_bytes.specs.Widths.{EventFits}
-use Rattle.entry_bytes.proofs.Fields.{byte-front, byte-spells, number-spells, wide32}
-use Rattle.entry_bytes.proofs.Spells.{Announces, Announces-or, Spells, Spells-as, Spells-made, Spells-tagged, Spells-then}
-use Rattle.entry_bytes.proofs.VisitsSpelt.{IsBelow, place-spells}
-
--- an event at an airport, whose numbers are of their types
-abbrev pub IsEventSpelt : AirportParts → Event → Type 0
-IsEventSpelt airport event = EventFits event × IsEventOf airport event
+use Rattle.entry_bytes.specs.Commits.{stand_field}
+use Rattle.entry_bytes.specs.Fields.{Field, number_field}
+use Rattle.entry_bytes.specs.Parsing.{event_of, parse_event, parse_off, parse_on}
+use Rattle.entry_bytes.specs.Reports.{event_fields}
+use Rattle.entry_bytes.proofs.CommitsSpelt.{IsAny, reads_stand}
+use Rattle.entry_bytes.proofs.Fields.{reads_byte, reads_number, wide32}
+use Rattle.entry_bytes.proofs.Spells.{Announces, Announces-or, Anywhere, Spells, Spells-as, Spells-from, Spells-give, Spells-one, Spells-tagged, Spells-then}
 
 abbrev tag_of : Event → ℕ
 tag_of (On part stand minute) = 1
 tag_of (Off minute) = 2
 
-abbrev minute_text : Event → List ℕ
-minute_text (On part stand minute) = to_le_bytes w32 minute
-minute_text (Off minute) = to_le_bytes w32 minute
-
-abbrev back_of : Event → List ℕ
-back_of (On part stand minute) = part ∷ (to_le_bytes w16 stand.0 ++ to_le_bytes w32 minute)
-back_of (Off minute) = to_le_bytes w32 minute
+abbrev back_of : Event → List Field
+back_of (On part stand minute) = number_field w8 part ∷ stand_field stand ∷ number_field w32 minute ∷ []
+back_of (Off minute) = number_field w32 minute ∷ []
 
 abbrev part_in : Event → ℕ
 part_in (On part stand minute) = part
@@ -39,78 +32,85 @@ abbrev stand_in : Event → ℕ
 stand_in (On part stand minute) = stand.0
 stand_in (Off minute) = 0
 
-abbrev HasTag : AirportParts → ℕ → Event → Type 0
-HasTag airport tag event = (tag_of event ≡ tag) × IsEventSpelt airport event
-
-abbrev OfPart : AirportParts → ℕ → Event → Type 0
-OfPart airport part event = (part_in event ≡ part) × HasTag airport 1 event
-
-abbrev OfStand : AirportParts → ℕ → ℕ → Event → Type 0
-OfStand airport part stand event = (stand_in event ≡ stand) × OfPart airport part event
+abbrev minute_in : Event → ℕ
+minute_in (On part stand minute) = minute
+minute_in (Off minute) = minute
 
 abbrev stand_no : ℕ → StandNo
 stand_no number = record { 0 = number }
 
+abbrev HasTag : ℕ → Event → Type 0
+HasTag tag event = (tag_of event ≡ tag) × IsAny event
+
+abbrev OfPart : ℕ → Event → Type 0
+OfPart part event = (part_in event ≡ part) × HasTag 1 event
+
+abbrev OfStand : ℕ → ℕ → Event → Type 0
+OfStand part stand event = (stand_in event ≡ stand) × OfPart part event
+
 -- ---- on block
 
-on_stand : (airport : AirportParts) (part : ℕ) (event : Event) → OfPart airport part event → IsBelow (2 ^ 16) (length airport.stands) (stand_in event)
-on_stand airport part (On p s m) h = record { fits = h.1.1.0.0; low = h.1.1.1 }
-on_stand airport part (Off m) h = absurd (omega (arith, h.1.0))
+only_on : (part stand minute : ℕ) (event : Event) → (minute_in event ≡ minute) × OfStand part stand event → event ≡ On part (stand_no stand) minute
+only_on part stand minute (On p s m) h = ap (λ n. On n s m) h.1.1.0 ∙ ap (λ n. On part (stand_no n) m) h.1.0 ∙ ap (λ n. On part (stand_no stand) n) h.0
+only_on part stand minute (Off m) h = absurd (omega (arith, h.1.1.1.0))
 
-is_on : (airport : AirportParts) (part stand : ℕ) (event : Event) → OfStand airport part stand event
-    → (minute : ℕ) × (minute < 2 ^ 32) × (event ≡ On part (stand_no stand) minute)
-is_on airport part stand (On p s m) h = (m, h.1.1.1.0.1, ap (λ n. On n s m) h.1.0 ∙ ap (λ n. On part (stand_no n) m) h.0)
-is_on airport part stand (Off m) h = absurd (omega (arith, h.1.1.0))
+on_fields : (event : Event) → HasTag 1 event → back_of event ≡ number_field w8 (part_in event) ∷ stand_field (stand_no (stand_in event)) ∷ number_field w32 (minute_in event) ∷ []
+on_fields (On p s m) h = refl
+on_fields (Off m) h = absurd (omega (arith, h.0))
 
-on_bytes : (airport : AirportParts) (event : Event) → HasTag airport 1 event
-    → back_of event ≡ part_in event ∷ [] ++ (to_le_bytes w16 (stand_in event) ++ minute_text event)
-on_bytes airport (On p s m) h = refl
-on_bytes airport (Off m) h = absurd (omega (arith, h.0))
-
-on-spells : (airport : AirportParts) → Spells (parse_on airport) back_of (HasTag airport 1) 7
+on-spells : (airport : AirportParts) → Spells Anywhere airport (parse_on airport) back_of (HasTag 1)
 unfolding parse_on
-on-spells airport = Spells-as back_of (HasTag airport 1) 7
-    (Spells-then part_in (HasTag airport 1) byte-spells
-    (λ p a. Spells-then stand_in (OfPart airport p) (place-spells (length airport.stands))
-    (λ s b. Spells-made (On p (stand_no s)) minute_text (OfStand airport p s) (number-spells w32 (2 ^ 32) wide32)
-    (λ m c. (refl, (refl, (refl, ((b.fits, c), b.low))))) (is_on airport p s) (λ m. refl))
-    (on_stand airport p))
+on-spells airport = Spells-as back_of (HasTag 1)
+    (Spells-then part_in (HasTag 1) (Spells-one (reads_byte airport))
+    (λ p a. Spells-then stand_in (OfPart p) (Spells-one (reads_stand airport))
+    (λ s b. Spells-then minute_in (OfStand p s) (Spells-one (reads_number airport w32 wide32))
+    (λ m c. Spells-give (On p (stand_no s) m) (λ event. (minute_in event ≡ m) × OfStand p s event) (refl, (refl, (refl, (refl, tt)))) (only_on p s m))
     (λ event h. tt))
-    (λ event h. h) (λ event h. h) (on_bytes airport) (omega arith)
+    (λ event h. tt))
+    (λ event h. tt))
+    (λ event h. h) (λ event h. h) on_fields
 
 -- ---- off block
 
-is_off : (airport : AirportParts) (event : Event) → HasTag airport 2 event → (minute : ℕ) × (minute < 2 ^ 32) × (event ≡ Off minute)
-is_off airport (On p s m) h = absurd (omega (arith, h.0))
-is_off airport (Off m) h = (m, h.1.0, refl)
+only_off : (minute : ℕ) (event : Event) → (minute_in event ≡ minute) × HasTag 2 event → event ≡ Off minute
+only_off minute (On p s m) h = absurd (omega (arith, h.1.0))
+only_off minute (Off m) h = ap Off h.0
 
-off-spells : (airport : AirportParts) → Spells parse_off back_of (HasTag airport 2) 7
+off_fields : (event : Event) → HasTag 2 event → back_of event ≡ number_field w32 (minute_in event) ∷ []
+off_fields (On p s m) h = absurd (omega (arith, h.0))
+off_fields (Off m) h = refl
+
+off-spells : (airport : AirportParts) → Spells Anywhere airport parse_off back_of (HasTag 2)
 unfolding parse_off
-off-spells airport = Spells-as back_of (HasTag airport 2) 7
-    (Spells-made Off back_of (HasTag airport 2) (number-spells w32 (2 ^ 32) wide32) (λ m c. (refl, (c, tt))) (is_off airport) (λ m. refl))
-    (λ event h. h) (λ event h. h) (λ event h. refl) (omega arith)
+off-spells airport = Spells-as back_of (HasTag 2)
+    (Spells-then minute_in (HasTag 2) (Spells-one (reads_number airport w32 wide32))
+    (λ m c. Spells-give (Off m) (λ event. (minute_in event ≡ m) × HasTag 2 event) (refl, (refl, tt)) (only_off m))
+    (λ event h. tt))
+    (λ event h. h) (λ event h. h) off_fields
 
 -- ---- any event
 
-at_tag : (airport : AirportParts) (tag : ℕ) → Announces (event_of airport tag) back_of (HasTag airport tag) 7
+at_tag : (airport : AirportParts) (tag : ℕ) → Announces airport (event_of airport tag) back_of (HasTag tag)
 at_tag airport tag =
-    let P = HasTag airport tag in
-    Announces-or (tag == 1) (parse_on airport) (cond (tag == 2) (Some parse_off) None) back_of P 7
-    (λ e. subst (λ t. Spells (parse_on airport) back_of (HasTag airport t) 7) (sym (eqb-true tag 1 e)) (on-spells airport))
-    (Announces-or (tag == 2) parse_off None back_of P 7
-    (λ e. subst (λ t. Spells parse_off back_of (HasTag airport t) 7) (sym (eqb-true tag 2 e)) (off-spells airport))
+    Announces-or (cond (tag == 2) (Some parse_off) None)
+    (λ e. subst (λ t. Spells Anywhere airport (parse_on airport) back_of (HasTag t)) (sym (eqb-true tag 1 e)) (on-spells airport))
+    (Announces-or None
+    (λ e. subst (λ t. Spells Anywhere airport parse_off back_of (HasTag t)) (sym (eqb-true tag 2 e)) (off-spells airport))
     tt)
 
-has_field : (airport : AirportParts) (event : Event) → IsEventSpelt airport event → IsSome (event_of airport (tag_of event))
+has_field : (airport : AirportParts) (event : Event) → IsAny event → IsSome (event_of airport (tag_of event))
 has_field airport (On p s m) h = refl
 has_field airport (Off m) h = refl
 
-same_bytes : (event : Event) → event_text event ≡ tag_of event ∷ back_of event
-same_bytes (On p s m) = refl
-same_bytes (Off m) = refl
+same_fields : (event : Event) → event_fields event ≡ number_field w8 (tag_of event) ∷ back_of event
+same_fields (On p s m) = refl
+same_fields (Off m) = refl
 
-pub event-spells : (airport : AirportParts) → Spells (parse_event airport) event_text (IsEventSpelt airport) 8
+pub event-spells : (airport : AirportParts) → Spells Anywhere airport (parse_event airport) event_fields IsAny
 unfolding parse_event
-event-spells airport = Spells-as event_text (IsEventSpelt airport) 8
-    (Spells-tagged BadField (event_of airport) tag_of back_of (IsEventSpelt airport) 7 byte-spells byte-front (λ at. omega arith) (at_tag airport) (has_field airport))
-    (λ event h. h) (λ event h. h) (λ event h. same_bytes event) (omega arith)
+event-spells airport =
+    let small : 2 < 256 = omega arith in
+    Spells-as event_fields IsAny
+    (Spells-from Anywhere (λ at h. refl) (Spells-tagged airport BadField (event_of airport) tag_of back_of IsAny (reads_byte airport) (at_tag airport) (has_field airport)
+    (Off 0, (tt, (small, (wide32.zero, tt))))))
+    (λ event h. h) (λ event h. h) (λ event h. same_fields event)

@@ -3,10 +3,11 @@ pub mod Fields
 pub mod KeysSpelt
 pub mod VisitsSpelt
 pub mod CommitsSpelt
-pub mod MessagesSpelt
 pub mod EventsSpelt
-pub mod EntriesSpelt
-pub mod Loops
+pub mod MessagesSpelt
+pub mod WholeSpelt
 pub mod Lengths
 pub mod CommandsOf
+pub mod EntriesSpelt
 pub mod FormerSpelt
+pub mod Loops

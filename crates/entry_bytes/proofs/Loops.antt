@@ -1,17 +1,18 @@
 -- This many edits, one after the other, as a loop reads and writes them.
-use Rattle.std.proofs.Common.{◌≡◌, ℕ, suc, ◌-◌, ◌+◌, ◌≤◌, ◌<◌, List, [], ◌∷◌, ◌++◌, length, get_or, take, All, subst, Result, Ok, Err, refl, sym, ap, ◌∙◌, append_assoc, arith}
+use Rattle.std.proofs.Common.{◌≡◌, ℕ, suc, ◌-◌, ◌+◌, ◌≤◌, ◌<◌, List, [], ◌∷◌, ◌++◌, length, get_or, take, subst, Result, Ok, Err, refl, sym, ap, ◌∙◌, append_assoc, arith}
 use Rattle.std.specs.List.{flat_map}
 use Rattle.std.proofs.lemmas.List.{append-nil, take_more}
 use Rattle.std.proofs.lemmas.List.Concat.{flat_map-append}
-use Rattle.std.proofs.lemmas.List.Elements.{All-push}
 use Rattle.visit_book.specs.declared.edits.Edit.{Edit}
-use Rattle.entry_bytes.specs.Widths.{EditFits}
-use Rattle.entry_bytes.specs.Commits.{edit_text}
+use Rattle.apron_base.specs.Histories.{Every}
+use Rattle.entry_bytes.specs.Commits.{edit_fields}
+use Rattle.entry_bytes.specs.Fields.{Fits, field_bytes}
 use Rattle.entry_bytes.specs.declared.faults.EntryFault.{EntryFault}
 use Rattle.entry_bytes.specs.declared.faults.ReadFault.{ReadFault}
 use Rattle.entry_bytes.specs.declared.faults.ReadFault.TheVariants as faults
 use Rattle.entry_bytes.specs.Gives.{FailsReading}
 use Rattle.entry_bytes.specs.Readings.{RestOfEntry, Reading, ◌>>=◌, going_on, give, parse_many}
+use Rattle.entry_bytes.proofs.Spells.{every-append}
 
 -- what was read before, and what is still read
 abbrev pub with_front : {A : Type 0} → List A → Result (List A × RestOfEntry) EntryFault → Result (List A × RestOfEntry) EntryFault
@@ -56,14 +57,24 @@ is_done field front count i left total le so_far =
     let k : count - i ≡ 0 = omega arith in
     sym so_far ∙ ap (λ n. with_front front (parse_many n field left)) k ∙ ap (λ xs. Ok (xs, left)) (append-nil front)
 
--- one more edit is written after those before it
-pub written_more : (edits : List Edit) (i : ℕ) (d : Edit) (start out new : List ℕ) → i < length edits → out ≡ start ++ flat_map edit_text (take i edits) → new ≡ out ++ edit_text (get_or edits i d)
-    → new ≡ start ++ flat_map edit_text (take (i + 1) edits)
-written_more edits i d start out new lt so_far e =
+-- the fields of one more edit
+fields_more : (edits : List Edit) (i : ℕ) (d : Edit) → i < length edits → flat_map edit_fields (take (i + 1) edits) ≡ flat_map edit_fields (take i edits) ++ edit_fields (get_or edits i d)
+fields_more edits i d lt =
     let edit = get_or edits i d in
-    let text : flat_map edit_text (take (i + 1) edits) ≡ flat_map edit_text (take i edits) ++ edit_text edit =
-    ap (flat_map edit_text) (take_more edits i d lt) ∙ flat_map-append edit_text (take i edits) (edit ∷ []) ∙ ap (λ t. flat_map edit_text (take i edits) ++ t) (append-nil (edit_text edit)) in
-    e ∙ ap (λ t. t ++ edit_text edit) so_far ∙ append_assoc start (flat_map edit_text (take i edits)) (edit_text edit) ∙ ap (λ t. start ++ t) (sym text)
+    ap (flat_map edit_fields) (take_more edits i d lt) ∙ flat_map-append edit_fields (take i edits) (edit ∷ [])
+    ∙ ap (λ fs. flat_map edit_fields (take i edits) ++ fs) (append-nil (edit_fields edit))
 
-pub fits_more : (edits : List Edit) (i : ℕ) (d : Edit) → i < length edits → All EditFits (take i edits) → EditFits (get_or edits i d) → All EditFits (take (i + 1) edits)
-fits_more edits i d lt so_far fits = subst (All EditFits) (sym (take_more edits i d lt)) (All-push EditFits (take i edits) (get_or edits i d) so_far fits)
+-- one more edit is written after those before it
+pub written_more : (edits : List Edit) (i : ℕ) (d : Edit) (start out new : List ℕ) → i < length edits → out ≡ start ++ flat_map field_bytes (flat_map edit_fields (take i edits))
+    → new ≡ out ++ flat_map field_bytes (edit_fields (get_or edits i d)) → new ≡ start ++ flat_map field_bytes (flat_map edit_fields (take (i + 1) edits))
+written_more edits i d start out new lt so_far e =
+    let edit = edit_fields (get_or edits i d) in
+    let before = flat_map edit_fields (take i edits) in
+    e ∙ ap (λ (t : List ℕ). t ++ flat_map field_bytes edit) so_far ∙ append_assoc start (flat_map field_bytes before) (flat_map field_bytes edit)
+    ∙ ap (λ (t : List ℕ). start ++ t) (sym (flat_map-append field_bytes before edit))
+    ∙ ap (λ fs. start ++ flat_map field_bytes fs) (sym (fields_more edits i d lt))
+
+pub fits_more : (edits : List Edit) (i : ℕ) (d : Edit) → i < length edits → Every Fits (flat_map edit_fields (take i edits)) → Every Fits (edit_fields (get_or edits i d))
+    → Every Fits (flat_map edit_fields (take (i + 1) edits))
+fits_more edits i d lt so_far fits =
+    subst (Every Fits) (sym (fields_more edits i d lt)) (every-append Fits (flat_map edit_fields (take i edits)) (edit_fields (get_or edits i d)) so_far fits)

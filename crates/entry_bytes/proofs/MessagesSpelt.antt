@@ -1,6 +1,7 @@
--- Messages are read exactly as they are spelt.
-use Rattle.std.proofs.Common.{◌≡◌, ℕ, ◌<◌, ◌≤◌, Bool, true, false, cond, List, length, Some, None, Result, Ok, Err, bytes_eq, refl, ap, ◌∙◌, arith}
+-- Messages are read exactly from their canonical texts.
+use Rattle.std.proofs.Common.{◌≡◌, ℕ, ◌<◌, ◌≤◌, Bool, true, false, cond, List, [], ◌∷◌, length, Some, None, Result, Ok, Err, bytes_eq, refl, ap, ◌∙◌, arith}
 use Rattle.std.specs.Cmp.Lexicographic.{bytes_decides}
+use Rattle.apron_rules.specs.declared.parts.AirportParts.{AirportParts}
 use Rattle.mvt_grammar.specs.Canonical.{canonical}
 use Rattle.mvt_grammar.specs.Readable.{IsReadable}
 use Rattle.mvt_grammar.specs.Reading.{read_mvt_of}
@@ -9,11 +10,11 @@ use Rattle.mvt_grammar.specs.declared.message.MvtFault.{MvtFault}
 use Rattle.mvt_grammar.proofs.Gives.{read_mvt_of-readable}
 use Rattle.mvt_grammar.proofs.Lengths.{length-canonical}
 use Rattle.mvt_grammar.proofs.RoundTrip.{read_mvt_of-canonical}
-use Rattle.entry_bytes.specs.Keys.{sized_text}
-use Rattle.entry_bytes.specs.Messages.{canonical_message, if_canonical, message_text, parse_message}
-use Rattle.entry_bytes.specs.Readings.{text}
-use Rattle.entry_bytes.proofs.Fields.{text-front, text-spells}
-use Rattle.entry_bytes.proofs.Spells.{Spells, Spells-told}
+use Rattle.entry_bytes.specs.Fields.{text_field}
+use Rattle.entry_bytes.specs.Parsing.{canonical_message, if_canonical, parse_message}
+use Rattle.entry_bytes.proofs.Fields.{reads_text, some_name}
+use Rattle.entry_bytes.proofs.KeysSpelt.{some_airline}
+use Rattle.entry_bytes.proofs.Spells.{ReadsOne, ReadsOne-told}
 
 some_is : (found message : Mvt) → Some found ≡ Some message → found ≡ message
 some_is found message e = cc
@@ -38,13 +39,39 @@ tells message h =
     ap (if_canonical (canonical message)) (read_mvt_of-canonical message h)
     ∙ ap (λ (same : Bool). cond same (Some message) None) ((bytes_decides (canonical message) (canonical message)).1 refl)
 
+pub canonical-short : (message : Mvt) → IsReadable message → length (canonical message) ≤ 85
+canonical-short message h = length-canonical message h
+
 short : (message : Mvt) → IsReadable message → length (canonical message) < 256
 short message h = let few = length-canonical message h in omega arith
 
-pub length-message : (message : Mvt) → IsReadable message → length (message_text message) ≤ 86
-length-message message h = let few = length-canonical message h in omega arith
+-- a message with nothing that it need not have
+some_message : Mvt
+some_message = record {
+  flight = record { airline = some_airline; number = 0; suffix = None };
+  day = 1;
+  registration = some_name;
+  station = 65 ∷ 65 ∷ 65 ∷ [];
+  ad = None;
+  aa = None;
+  ea = None;
+  ed = None;
+}
 
-pub message-spells : Spells parse_message message_text IsReadable 86
+some_is_readable : IsReadable some_message
+unfolding some_message
+some_is_readable = record {
+  flight = record { airline = refl; number = omega arith; suffix = tt };
+  day = (omega arith, omega arith);
+  registration = refl;
+  station = refl;
+  ad = tt;
+  aa = tt;
+  ea = tt;
+  ed = tt;
+}
+
+pub reads_message : (airport : AirportParts) → ReadsOne airport parse_message (λ message. text_field (canonical message)) IsReadable
 unfolding parse_message
-message-spells = Spells-told canonical_message text sized_text (λ bytes. length bytes < 256) canonical IsReadable 256 86 text-spells text-front
-    (λ bytes message h e. told_by bytes message e) short tells length-message
+reads_message airport = ReadsOne-told canonical_message canonical IsReadable (reads_text airport)
+    told_by (λ message h. (short message h, tells message h)) (some_message, some_is_readable, tt)

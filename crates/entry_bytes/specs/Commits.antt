@@ -1,90 +1,32 @@
--- A commit as bytes: the desk's name, the draft's number, its base, how many edits there are, and
--- the edits.
-use Rattle.std.specs.Prelude.{ℕ, ◌==◌, ◌&&◌, nat_le, nat_lt, List, [], ◌∷◌, ◌++◌, length, Option, Some, None, if◌then◌else◌}
-use Rattle.std.specs.Int.{w16, w32, to_le_bytes}
+-- A commit as fields.
+use Rattle.std.specs.Prelude.{ℕ, nat_lt, List, [], ◌∷◌, ◌++◌, length}
+use Rattle.std.specs.Int.{w8, w16, w32}
 use Rattle.std.specs.List.{flat_map}
+use Rattle.apron_base.specs.declared.numbers.StandNo.{StandNo}
 use Rattle.apron_base.specs.declared.numbers.VisitNo.{VisitNo}
-use Rattle.apron_rules.specs.declared.parts.AirportParts.{AirportParts}
-use Rattle.visit_book.specs.Edits.{most_edits}
 use Rattle.visit_book.specs.declared.drafts.Draft.{Draft}
 use Rattle.visit_book.specs.declared.edits.Edit.{Edit}
 use Rattle.visit_book.specs.declared.edits.Edit.TheVariants.{Put, Lift, Cut, Join}
-use Rattle.entry_bytes.specs.declared.faults.EntryFault.TheVariants.{BadField}
-use Rattle.entry_bytes.specs.Readings.{Reading, ◌>>=◌, byte, give, name, number, parse_many, such_that, by_tag}
-use Rattle.entry_bytes.specs.Keys.{sized_text}
+use Rattle.entry_bytes.specs.Fields.{Field, limited_field, name_field, number_field}
 
--- the visit and the part that an edit changes
-abbrev pub part_bytes : VisitNo → ℕ → List ℕ
-part_bytes visit part = to_le_bytes w32 visit.0 ++ part ∷ []
+-- a stand of the airport
+abbrev pub stand_field : StandNo → Field
+stand_field stand = limited_field w16 stand.0 (λ airport. nat_lt stand.0 (length airport.stands))
 
--- a tag, the visit and the part; then the stand of a put, or the minute of a cut
-abbrev pub edit_text : Edit → List ℕ
-edit_text (Put visit part stand) = 1 ∷ (part_bytes visit part ++ to_le_bytes w16 stand.0)
-edit_text (Lift visit part) = 2 ∷ part_bytes visit part
-edit_text (Cut visit part at) = 3 ∷ (part_bytes visit part ++ to_le_bytes w32 at)
-edit_text (Join visit part) = 4 ∷ part_bytes visit part
+-- a tag, and the visit and the part that an edit changes
+abbrev pub part_fields : ℕ → VisitNo → ℕ → List Field
+part_fields tag visit part = number_field w8 tag ∷ number_field w32 visit.0 ∷ number_field w8 part ∷ []
 
--- all that a commit has, in this order
-abbrev pub commit_text : Draft → List ℕ
-commit_text draft =
-    sized_text draft.desk ++ to_le_bytes w32 draft.number ++ to_le_bytes w32 draft.base
-    ++ length draft.edits ∷ []
-    ++ flat_map edit_text draft.edits
+-- the same; then the stand of a put, or the minute of a cut
+abbrev pub edit_fields : Edit → List Field
+edit_fields (Put visit part stand) = part_fields 1 visit part ++ stand_field stand ∷ []
+edit_fields (Lift visit part) = part_fields 2 visit part
+edit_fields (Cut visit part at) = part_fields 3 visit part ++ number_field w32 at ∷ []
+edit_fields (Join visit part) = part_fields 4 visit part
 
--- what comes after the tag of a put, on a stand of the airport
-unfoldable pub parse_put : AirportParts → Reading Edit
-parse_put airport = do
-  visit ← number w32
-  part ← byte
-  stand ← such_that (λ stand. nat_lt stand (length airport.stands)) (number w16)
-  give (Put (record { 0 = visit }) part (record { 0 = stand }))
-
--- what comes after the tag of a lift
-unfoldable pub parse_lift : Reading Edit
-parse_lift = do
-  visit ← number w32
-  part ← byte
-  give (Lift (record { 0 = visit }) part)
-
--- what comes after the tag of a cut
-unfoldable pub parse_cut : Reading Edit
-parse_cut = do
-  visit ← number w32
-  part ← byte
-  at ← number w32
-  give (Cut (record { 0 = visit }) part at)
-
--- what comes after the tag of a join
-unfoldable pub parse_join : Reading Edit
-parse_join = do
-  visit ← number w32
-  part ← byte
-  give (Join (record { 0 = visit }) part)
-
--- the edit of a tag
-abbrev pub parse_edit_of_tag : AirportParts → ℕ → Option (Reading Edit)
-parse_edit_of_tag airport tag =
-    if tag == 1 then Some (parse_put airport)
-    else (if tag == 2 then Some parse_lift
-    else (if tag == 3 then Some parse_cut
-    else (if tag == 4 then Some parse_join
-    else None)))
-
--- an edit at the airport
-unfoldable pub parse_edit : AirportParts → Reading Edit
-parse_edit airport = by_tag BadField (parse_edit_of_tag airport)
-
--- 1 to 64 edits
-unfoldable pub parse_edits : AirportParts → Reading (List Edit)
-parse_edits airport = do
-  count ← such_that (λ count. nat_le 1 count && nat_le count most_edits) byte
-  parse_many count (parse_edit airport)
-
--- the draft of a commit at the airport
-unfoldable pub parse_commit : AirportParts → Reading Draft
-parse_commit airport = do
-  desk ← name
-  draft ← number w32
-  base ← number w32
-  edits ← parse_edits airport
-  give (record { desk = desk; number = draft; base = base; edits = edits })
+-- the desk's name, the draft's number, its base, how many edits there are, and the edits
+abbrev pub commit_fields : Draft → List Field
+commit_fields draft =
+    name_field draft.desk ∷ number_field w32 draft.number ∷ number_field w32 draft.base
+    ∷ number_field w8 (length draft.edits)
+    ∷ flat_map edit_fields draft.edits

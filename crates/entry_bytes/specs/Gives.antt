@@ -1,5 +1,5 @@
--- What the code reads.
-use Rattle.std.specs.Prelude.{◌≡◌, Result, Ok, Err}
+-- What the code reads. Only functions of this crate cite it.
+use Rattle.std.specs.Prelude.{◌≡◌, ◌≤◌, ℕ, Result, Ok, Err}
 use Rattle.entry_bytes.specs.declared.faults.EntryFault.{EntryFault}
 use Rattle.entry_bytes.specs.declared.faults.ReadFault.{ReadFault}
 use Rattle.entry_bytes.specs.declared.faults.ReadFault.TheVariants.{BadKind, BadField, TrailingBytes, Memory}
@@ -28,3 +28,17 @@ GivesAs view (Err fault) left read = FailsReading fault read
 abbrev pub GivesReading : {A : Type 0} → Result A ReadFault → RestOfEntry
     → Result (A × RestOfEntry) EntryFault → Type 0
 GivesReading result left read = GivesAs (λ value. value) result left read
+
+-- the place of the fault, if it has one, is at most this one
+abbrev pub IsWithin : ℕ → EntryFault → Type 0
+IsWithin most entry.BadKind = Unit {0}
+IsWithin most (entry.BadField at) = at ≤ most
+IsWithin most (entry.TrailingBytes at) = at ≤ most
+IsWithin most entry.Memory = Unit {0}
+
+-- the same fault
+abbrev pub entry_fault : ReadFault → EntryFault
+entry_fault BadKind = entry.BadKind
+entry_fault (BadField at) = entry.BadField at
+entry_fault (TrailingBytes at) = entry.TrailingBytes at
+entry_fault Memory = entry.Memory

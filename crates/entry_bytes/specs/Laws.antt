@@ -1,12 +1,12 @@
--- Each entry has one spelling.
-use Rattle.std.specs.Prelude.{◌≡◌, ◌<◌, ◌≤◌, ℕ, List, length, slice_index, Ok, Err}
+-- What holds between entries and their bytes.
+use Rattle.std.specs.Prelude.{◌≡◌, ◌<◌, ◌≤◌, ℕ, List, length, slice_index}
 use Rattle.apron_rules.specs.declared.parts.AirportParts.{AirportParts}
 use Rattle.desk_asks.specs.declared.asks.Entry.{Entry}
 use Rattle.entry_bytes.specs.declared.faults.EntryFault.{EntryFault}
-use Rattle.desk_asks.specs.Commands.{IsCommand}
-use Rattle.entry_bytes.specs.Widths.{FitsWidths, IsEntryOf}
-use Rattle.entry_bytes.specs.Faults.{IsWithin}
-use Rattle.entry_bytes.specs.Entries.{decode_entry, entry_text}
+use Rattle.entry_bytes.specs.Entries.{IsEntryOf, entry_text}
+use Rattle.entry_bytes.specs.Faults.{IsEntry, IsFirstFault}
+use Rattle.entry_bytes.specs.Fields.{Field}
+use Rattle.entry_bytes.specs.Former.{WasEntryOf, former_text}
 
 -- the most bytes of an entry
 abbrev pub most_bytes : ℕ
@@ -16,33 +16,30 @@ most_bytes = 671
 abbrev pub AreBytes : List ℕ → Type 0
 AreBytes bytes = (place : ℕ) → slice_index bytes place < 256
 
--- an entry of the airport is read back from its bytes
-abbrev pub EntryIsReadBack : Type 0
-EntryIsReadBack =
-    (airport : AirportParts) (entry : Entry)
-    → IsEntryOf airport entry
-    → decode_entry airport (entry_text entry) ≡ Ok entry
+-- no two entries of the airport have the same bytes
+abbrev pub EntriesDiffer : Type 0
+EntriesDiffer = (airport : AirportParts) (one other : Entry)
+    → IsEntryOf airport one
+    → IsEntryOf airport other
+    → entry_text one ≡ entry_text other
+    → one ≡ other
 
--- bytes that are read as an entry are the bytes of that entry, and it is one of the airport
-abbrev pub EntryIsSpelt : Type 0
-EntryIsSpelt =
-    (airport : AirportParts) (bytes : List ℕ) (entry : Entry)
-    → AreBytes bytes
-    → decode_entry airport bytes ≡ Ok entry
-    → (bytes ≡ entry_text entry) × IsEntryOf airport entry
+-- no two had the same bytes
+abbrev pub FormerEntriesDiffer : Type 0
+FormerEntriesDiffer = (airport : AirportParts) (one other : Entry)
+    → WasEntryOf airport one
+    → WasEntryOf airport other
+    → former_text one ≡ former_text other
+    → one ≡ other
 
 -- an entry has at most 671 bytes
 abbrev pub EntryIsShort : Type 0
-EntryIsShort =
-    (entry : Entry)
-    → FitsWidths entry.command
-    → IsCommand entry.command
-    → length (entry_text entry) ≤ most_bytes
+EntryIsShort = (entry : Entry) → IsEntry entry → length (entry_text entry) ≤ most_bytes
 
--- a fault is among as many first bytes as an entry can have, or right after them
-abbrev pub FaultIsNear : Type 0
-FaultIsNear =
-    (airport : AirportParts) (bytes : List ℕ) (fault : EntryFault)
+-- bytes have one first fault, if entries have these fields
+abbrev pub FaultIsOne : (Entry → List Field) → Type 0
+FaultIsOne fields_of = (airport : AirportParts) (bytes : List ℕ) (one other : EntryFault)
     → AreBytes bytes
-    → decode_entry airport bytes ≡ Err fault
-    → IsWithin most_bytes fault
+    → IsFirstFault fields_of airport bytes one
+    → IsFirstFault fields_of airport bytes other
+    → one ≡ other

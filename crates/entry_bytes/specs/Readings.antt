@@ -1,4 +1,5 @@
--- Bytes that are read from left to right, a field at a time, up to the first fault.
+-- Bytes that are read from left to right, a field at a time, up to the first fault. Only functions of
+-- this crate cite it.
 use Rattle.std.specs.Prelude.{ℕ, zero, suc, ◌+◌, nat_lt, Bool, List, [], ◌∷◌, length, take, drop, Option, Some, None, Result, Ok, Err, if◌then◌else◌}
 use Rattle.std.specs.Int.{Width, byte_len, from_le_bytes}
 use Rattle.apron_base.specs.Name.{is_name}

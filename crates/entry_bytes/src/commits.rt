@@ -1,33 +1,36 @@
 // Commits as bytes.
-ghost use Rattle.std.specs.Prelude.{◌≡◌, ◌≤◌, ◌++◌, ◌∷◌, ◌<◌, ◌^◌, All, length, OnOk};
+ghost use Rattle.std.specs.Prelude.{◌≡◌, ◌≤◌, ◌++◌, length, OnOk};
 ghost use Rattle.std.specs.List.{flat_map};
+ghost use Rattle.apron_base.specs.Histories.{Every};
 ghost use Rattle.visit_book.specs.Edits.{most_edits};
-ghost use Rattle.entry_bytes.specs.Widths.{DraftFits, EditFits};
+ghost use Rattle.entry_bytes.specs.Commits.{commit_fields, edit_fields, part_fields};
+ghost use Rattle.entry_bytes.specs.Fields.{Fits, field_bytes};
 ghost use Rattle.entry_bytes.specs.Gives.{GivesReading};
-ghost use Rattle.entry_bytes.specs.Commits.{commit_text, edit_text, parse_commit, parse_cut, parse_edit, parse_edits, parse_join, parse_lift, parse_put, part_bytes};
+ghost use Rattle.entry_bytes.specs.Parsing.{parse_commit, parse_cut, parse_edit, parse_edits, parse_join, parse_lift, parse_put};
 ghost use Rattle.entry_bytes.specs.Readings.{parse_many};
 
 use crate::faults::ReadFault;
 use crate::reader::{Reader, in_form};
-use crate::writing::{push_name, push_u16, push_u32};
+use crate::writing::{push_name, push_u8, push_u16, push_u32};
 use apron_base::{Listed, Memory, StandNo, VisitNo};
 use apron_rules::Airport;
 use std::alloc::Global;
 use visit_book::{Draft, Edit, MAX_EDITS};
 
 fn push_part_of_edit(out: &mut Vec<u8>, tag: u8, visit: VisitNo, part: u8) -> Result<(), Memory>
-    ensures text { OnOk result (out.new.items ≡ out.old.items ++ (tag ∷ part_bytes visit part)) }
-    ensures fits { OnOk result (visit.0 < 2 ^ 32) }
+    ensures text { OnOk result
+        (out.new.items ≡ out.old.items ++ flat_map field_bytes (part_fields tag visit part)) }
+    ensures fits { OnOk result (Every Fits (part_fields tag visit part)) }
 {
-    out.push(tag)?;
+    push_u8(out, tag)?;
     push_u32(out, visit.0)?;
-    out.push(part)?;
-    Ok(())
+    push_u8(out, part)
 }
 
 fn push_edit(out: &mut Vec<u8>, edit: &Edit) -> Result<(), Memory>
-    ensures text { OnOk result (out.new.items ≡ out.old.items ++ edit_text edit.now) }
-    ensures fits { OnOk result (EditFits edit.now) }
+    ensures text { OnOk result
+        (out.new.items ≡ out.old.items ++ flat_map field_bytes (edit_fields edit.now)) }
+    ensures fits { OnOk result (Every Fits (edit_fields edit.now)) }
 {
     match *edit {
         Edit::Put { visit, part, stand } => {
@@ -44,8 +47,9 @@ fn push_edit(out: &mut Vec<u8>, edit: &Edit) -> Result<(), Memory>
 }
 
 fn push_edits(out: &mut Vec<u8>, edits: &[Edit]) -> Result<(), Memory>
-    ensures text { OnOk result (out.new.items ≡ out.old.items ++ flat_map edit_text edits.now) }
-    ensures fits { OnOk result (All EditFits edits.now) }
+    ensures text { OnOk result (out.new.items
+        ≡ out.old.items ++ flat_map field_bytes (flat_map edit_fields edits.now)) }
+    ensures fits { OnOk result (Every Fits (flat_map edit_fields edits.now)) }
 {
     for edit in edits {
         push_edit(out, edit)?;
@@ -55,18 +59,19 @@ fn push_edits(out: &mut Vec<u8>, edits: &[Edit]) -> Result<(), Memory>
 
 pub(crate) fn push_commit(out: &mut Vec<u8>, draft: &Draft) -> Result<(), Memory>
     requires few { length draft.now.edits ≤ most_edits }
-    ensures text { OnOk result (out.new.items ≡ out.old.items ++ commit_text draft.now) }
-    ensures fits { OnOk result (DraftFits draft.now) }
+    ensures text { OnOk result
+        (out.new.items ≡ out.old.items ++ flat_map field_bytes (commit_fields draft.now)) }
+    ensures fits { OnOk result (Every Fits (commit_fields draft.now)) }
 {
     push_name(out, &draft.desk)?;
     push_u32(out, draft.number)?;
     push_u32(out, draft.base)?;
     let edits = draft.edits.as_slice();
-    out.push(edits.len() as u8)?;
+    push_u8(out, edits.len() as u8)?;
     push_edits(out, edits)
 }
 
-#[tactic(auto, unfolding(crate::specs::Commits::parse_put))]
+#[tactic(auto, unfolding(crate::specs::Parsing::parse_put))]
 fn parse_put(reader: &mut Reader<'_>, airport: &Airport) -> Result<Edit, ReadFault>
     ensures is { GivesReading result reader.new (parse_put airport.now reader.old) }
 {
@@ -79,7 +84,7 @@ fn parse_put(reader: &mut Reader<'_>, airport: &Airport) -> Result<Edit, ReadFau
     Ok(Edit::Put { visit, part, stand })
 }
 
-#[tactic(auto, unfolding(crate::specs::Commits::parse_lift))]
+#[tactic(auto, unfolding(crate::specs::Parsing::parse_lift))]
 fn parse_lift(reader: &mut Reader<'_>) -> Result<Edit, ReadFault>
     ensures is { GivesReading result reader.new (parse_lift reader.old) }
 {
@@ -88,7 +93,7 @@ fn parse_lift(reader: &mut Reader<'_>) -> Result<Edit, ReadFault>
     Ok(Edit::Lift { visit, part })
 }
 
-#[tactic(auto, unfolding(crate::specs::Commits::parse_cut))]
+#[tactic(auto, unfolding(crate::specs::Parsing::parse_cut))]
 fn parse_cut(reader: &mut Reader<'_>) -> Result<Edit, ReadFault>
     ensures is { GivesReading result reader.new (parse_cut reader.old) }
 {
@@ -98,7 +103,7 @@ fn parse_cut(reader: &mut Reader<'_>) -> Result<Edit, ReadFault>
     Ok(Edit::Cut { visit, part, at })
 }
 
-#[tactic(auto, unfolding(crate::specs::Commits::parse_join))]
+#[tactic(auto, unfolding(crate::specs::Parsing::parse_join))]
 fn parse_join(reader: &mut Reader<'_>) -> Result<Edit, ReadFault>
     ensures is { GivesReading result reader.new (parse_join reader.old) }
 {
@@ -107,7 +112,7 @@ fn parse_join(reader: &mut Reader<'_>) -> Result<Edit, ReadFault>
     Ok(Edit::Join { visit, part })
 }
 
-#[tactic(auto, unfolding(crate::specs::Commits::parse_edit))]
+#[tactic(auto, unfolding(crate::specs::Parsing::parse_edit))]
 fn parse_edit(reader: &mut Reader<'_>, airport: &Airport) -> Result<Edit, ReadFault>
     ensures is { GivesReading result reader.new (parse_edit airport.now reader.old) }
 {
@@ -139,7 +144,7 @@ fn parse_edits_of_count(
     Ok(edits)
 }
 
-#[tactic(auto, unfolding(crate::specs::Commits::parse_edits))]
+#[tactic(auto, unfolding(crate::specs::Parsing::parse_edits))]
 fn parse_edits(
     alloc: Global,
     reader: &mut Reader<'_>,
@@ -153,7 +158,7 @@ fn parse_edits(
     parse_edits_of_count(alloc, count, reader, airport)
 }
 
-#[tactic(auto, unfolding(crate::specs::Commits::parse_commit))]
+#[tactic(auto, unfolding(crate::specs::Parsing::parse_commit))]
 pub(crate) fn parse_commit(
     alloc: Global,
     reader: &mut Reader<'_>,

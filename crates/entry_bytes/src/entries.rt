@@ -1,13 +1,16 @@
 // Entries as bytes: the call number, the kind of the command, and its fields.
-ghost use Rattle.std.specs.Prelude.{◌≡◌, ◌≢◌, ◌≤◌, ◌<◌, ◌++◌, IfOk, OnOk, length, Err, Ok};
+ghost use Rattle.std.specs.Prelude.{◌≡◌, ◌≢◌, ◌≤◌, ◌<◌, ◌++◌, IfErr, IfOk, OnOk, length, Ok};
+ghost use Rattle.std.specs.List.{flat_map};
+ghost use Rattle.apron_base.specs.Histories.{Every};
 ghost use Rattle.apron_base.specs.declared.machine.TheConstants.{CALL_END};
 ghost use Rattle.apron_rules.specs.declared.parts.AirportParts.{AirportParts};
 ghost use Rattle.desk_asks.specs.Commands.{IsCommand, IsCommandOf};
-ghost use Rattle.entry_bytes.specs.Widths.{FitsWidths, IsEntryOf};
-ghost use Rattle.entry_bytes.specs.Entries.{parse_command, command_text, parse_call, decode_entry, parse_desk_message, parse_desk_report, parse_entry, entry_text, fields_of, with_none_left};
-ghost use Rattle.entry_bytes.specs.Gives.{FailsReading, GivesReading, ReadsEntry};
-ghost use Rattle.entry_bytes.specs.Faults.{IsWithin, entry_fault};
+ghost use Rattle.entry_bytes.specs.Entries.{IsEntryOf, SpellsEntry, SpellsNone, command_fields, entry_fields, entry_text};
+ghost use Rattle.entry_bytes.specs.Faults.{IsFirstFault};
+ghost use Rattle.entry_bytes.specs.Fields.{Fits, field_bytes};
+ghost use Rattle.entry_bytes.specs.Gives.{FailsReading, GivesReading, IsWithin, ReadsEntry, entry_fault};
 ghost use Rattle.entry_bytes.specs.Laws.{most_bytes};
+ghost use Rattle.entry_bytes.specs.Parsing.{decode_entry, parse_of_kind, parse_call, parse_command, parse_desk_message, parse_desk_report, parse_entry, with_none_left};
 
 use crate::commits::{parse_commit, push_commit};
 use crate::faults::{EntryFault, ReadFault};
@@ -15,7 +18,7 @@ use crate::messages::{parse_message, push_message};
 use crate::new_visits::{parse_new_visit, push_new_visit};
 use crate::reader::{Reader, in_form};
 use crate::reports::{parse_cancel, parse_report, push_cancel, push_report};
-use crate::writing::push_name;
+use crate::writing::{push_name, push_u8};
 use apron_base::{CALL_END, Listed, Memory};
 use apron_rules::Airport;
 use desk_asks::{Command, DeskMessage, DeskReport, Entry};
@@ -23,36 +26,37 @@ use std::alloc::Global;
 
 fn push_command(alloc: Global, out: &mut Vec<u8>, command: &Command) -> Result<(), Memory>
     requires command { IsCommand command.now }
-    ensures text { OnOk result (out.new.items ≡ out.old.items ++ command_text command.now) }
-    ensures fits { OnOk result (FitsWidths command.now) }
+    ensures text { OnOk result
+        (out.new.items ≡ out.old.items ++ flat_map field_bytes (command_fields command.now)) }
+    ensures fits { OnOk result (Every Fits (command_fields command.now)) }
 {
     match command {
         Command::AddVisit(new) => {
-            out.push(1)?;
+            push_u8(out, 1)?;
             push_new_visit(out, new)
         }
         Command::Commit(draft) => {
-            out.push(2)?;
+            push_u8(out, 2)?;
             push_commit(out, draft)
         }
         Command::Cancel(visit) => {
-            out.push(5)?;
+            push_u8(out, 5)?;
             push_cancel(out, *visit)
         }
         Command::Message(passed) => {
-            out.push(6)?;
+            push_u8(out, 6)?;
             push_name(out, &passed.desk)?;
             push_message(alloc, out, &passed.message)
         }
         Command::Report(report) => {
-            out.push(7)?;
+            push_u8(out, 7)?;
             push_name(out, &report.desk)?;
             push_report(out, report)
         }
     }
 }
 
-/// The bytes of an entry: its one spelling, which has 1 to 671 bytes and is read back at each
+/// The bytes of an entry: its one spelling, which has 1 to 671 bytes and can be read at each
 /// airport that the command belongs to. `Err` if there is no memory for them.
 pub fn encode_entry(alloc: Global, entry: &Entry) -> Result<Listed<u8>, Memory>
     requires call { entry.now.call < CALL_END }
@@ -60,9 +64,9 @@ pub fn encode_entry(alloc: Global, entry: &Entry) -> Result<Listed<u8>, Memory>
     ensures text { IfOk result (λ bytes. bytes ≡ entry_text entry.now) }
     ensures some { IfOk result (λ bytes. 1 ≤ length bytes) }
     ensures most { IfOk result (λ bytes. length bytes ≤ most_bytes) }
-    ensures read_back { IfOk result (λ bytes. (airport : AirportParts)
+    ensures entry { IfOk result (λ bytes. (airport : AirportParts)
         → IsCommandOf airport entry.now.command
-        → decode_entry airport bytes ≡ Ok entry.now) }
+        → IsEntryOf airport entry.now) }
 {
     let mut out = Vec::new(alloc);
     out.extend_from_slice(&entry.call.to_le_bytes())?;
@@ -70,7 +74,7 @@ pub fn encode_entry(alloc: Global, entry: &Entry) -> Result<Listed<u8>, Memory>
     Ok(Listed::from_vec(out))
 }
 
-#[tactic(auto, unfolding(crate::specs::Entries::parse_desk_message))]
+#[tactic(auto, unfolding(crate::specs::Parsing::parse_desk_message))]
 fn parse_desk_message(alloc: Global, reader: &mut Reader<'_>) -> Result<DeskMessage, ReadFault>
     ensures is { GivesReading result reader.new (parse_desk_message reader.old) }
 {
@@ -79,7 +83,7 @@ fn parse_desk_message(alloc: Global, reader: &mut Reader<'_>) -> Result<DeskMess
     Ok(DeskMessage { desk, message })
 }
 
-#[tactic(auto, unfolding(crate::specs::Entries::parse_desk_report))]
+#[tactic(auto, unfolding(crate::specs::Parsing::parse_desk_report))]
 fn parse_desk_report(reader: &mut Reader<'_>, airport: &Airport) -> Result<DeskReport, ReadFault>
     ensures is { GivesReading result reader.new (parse_desk_report airport.now reader.old) }
 {
@@ -87,13 +91,13 @@ fn parse_desk_report(reader: &mut Reader<'_>, airport: &Airport) -> Result<DeskR
     parse_report(reader, airport, desk)
 }
 
-#[tactic(auto, unfolding(crate::specs::Entries::parse_command))]
+#[tactic(auto, unfolding(crate::specs::Parsing::parse_command))]
 fn parse_command(
     alloc: Global,
     reader: &mut Reader<'_>,
     airport: &Airport,
 ) -> Result<Command, ReadFault>
-    ensures is { GivesReading result reader.new (parse_command (fields_of airport.now) reader.old) }
+    ensures is { GivesReading result reader.new (parse_command (parse_of_kind airport.now) reader.old) }
 {
     match reader.byte()? {
         1 => Ok(Command::AddVisit(parse_new_visit(reader, airport)?)),
@@ -123,7 +127,7 @@ pub(crate) fn with_none_left(reader: &Reader<'_>, entry: Entry) -> Result<Entry,
     Ok(entry)
 }
 
-#[tactic(auto, unfolding(crate::specs::Entries::decode_entry, crate::specs::Entries::parse_entry))]
+#[tactic(auto, unfolding(crate::specs::Parsing::decode_entry, crate::specs::Parsing::parse_entry))]
 fn read_entry(alloc: Global, airport: &Airport, bytes: &[u8]) -> Result<Entry, ReadFault>
     ensures is { ReadsEntry result (decode_entry airport.now bytes.now) }
 {
@@ -145,12 +149,14 @@ pub(crate) fn entry_fault(fault: ReadFault) -> EntryFault
     }
 }
 
-/// The entry that all of the bytes together spell for an airport. `Err` gives the first fault from
-/// left to right if they spell none, or says that there is no memory.
+/// The entry of an airport that has these bytes. `Err` gives the first fault from left to right if
+/// none has, or says that there is no memory.
 pub fn decode_entry(alloc: Global, airport: &Airport, bytes: &[u8]) -> Result<Entry, EntryFault>
-    ensures is { result ≢ Err EntryFault.Memory → result ≡ decode_entry airport.now bytes.now }
-    ensures spelt { IfOk result (λ entry. bytes.now ≡ entry_text entry) }
-    ensures entry { IfOk result (IsEntryOf airport.now) }
+    ensures entry { IfOk result (SpellsEntry airport.now bytes.now) }
+    ensures none { IfErr result
+        (λ fault. fault ≢ EntryFault.Memory → SpellsNone airport.now bytes.now) }
+    ensures fault { IfErr result (λ fault. fault ≢ EntryFault.Memory
+        → IsFirstFault entry_fields airport.now bytes.now fault) }
 {
     match read_entry(alloc, airport, bytes) {
         Ok(entry) => Ok(entry),

@@ -1,11 +1,11 @@
 // Entries as they were spelt before messages and reports named their desk, and the same entries as
 // they are spelt now.
-ghost use Rattle.std.specs.Prelude.{◌≡◌, ◌≢◌, ◌≤◌, IfOk, length, Err, Ok};
-ghost use Rattle.std.specs.Result.{result_map_both};
-ghost use Rattle.entry_bytes.specs.Entries.{decode_entry, entry_text, parse_command, read_with};
-ghost use Rattle.entry_bytes.specs.Former.{FormerEntryIsReadBack, FormerEntryIsSpelt, FormerFaultIsNear, decode_former_entry, former_fields_of, convert_entry, no_desk};
+ghost use Rattle.std.specs.Prelude.{◌≡◌, ◌≢◌, ◌≤◌, IfErr, IfOk, length};
+ghost use Rattle.entry_bytes.specs.Faults.{IsFirstFault};
+ghost use Rattle.entry_bytes.specs.Former.{ConvertsEntry, SpeltNone, former_fields, no_desk};
 ghost use Rattle.entry_bytes.specs.Gives.{GivesReading, ReadsEntry};
 ghost use Rattle.entry_bytes.specs.Laws.{most_bytes};
+ghost use Rattle.entry_bytes.specs.Parsing.{decode_former_entry, parse_former_of_kind, parse_command, read_with};
 
 use crate::commits::parse_commit;
 use crate::entries::{encode_entry, entry_fault, parse_call, with_none_left};
@@ -26,14 +26,14 @@ fn no_desk() -> Name
     Name::literal(b"-")
 }
 
-#[tactic(auto, unfolding(crate::specs::Entries::parse_command))]
+#[tactic(auto, unfolding(crate::specs::Parsing::parse_command))]
 fn former_command_at(
     alloc: Global,
     reader: &mut Reader<'_>,
     airport: &Airport,
 ) -> Result<Command, ReadFault>
     ensures is { GivesReading result reader.new
-        (parse_command (former_fields_of airport.now) reader.old) }
+        (parse_command (parse_former_of_kind airport.now) reader.old) }
 {
     match reader.byte()? {
         1 => Ok(Command::AddVisit(parse_new_visit(reader, airport)?)),
@@ -48,7 +48,7 @@ fn former_command_at(
     }
 }
 
-#[tactic(auto, unfolding(crate::specs::Former::decode_former_entry, crate::specs::Entries::parse_entry))]
+#[tactic(auto, unfolding(crate::specs::Parsing::decode_former_entry, crate::specs::Parsing::parse_entry))]
 fn read_former(alloc: Global, airport: &Airport, bytes: &[u8]) -> Result<Entry, ReadFault>
     ensures is { ReadsEntry result (decode_former_entry airport.now bytes.now) }
 {
@@ -58,20 +58,22 @@ fn read_former(alloc: Global, airport: &Airport, bytes: &[u8]) -> Result<Entry, 
     with_none_left(&reader, Entry { call, command })
 }
 
-/// The bytes that spell the same entry now: 1 to 671 bytes. They are read as exactly the entry that
-/// the given bytes were read as before messages and reports named their desk; the desk of a message
-/// or report in them is `-`. `Err` gives the first fault from left to right if the bytes spelt no
-/// entry for the airport, or says that there is no memory.
+/// The bytes that the entry of an airport has now which had the given bytes before messages and
+/// reports named their desk: 1 to 671 bytes. The desk of a message or report in them is `-`. `Err`
+/// gives the first fault from left to right if no entry had the given bytes, or says that there is
+/// no memory.
 pub fn convert_entry(
     alloc: Global,
     airport: &Airport,
     bytes: &[u8],
 ) -> Result<Listed<u8>, EntryFault>
-    ensures is { result ≢ Err EntryFault.Memory → result ≡ convert_entry airport.now bytes.now }
+    ensures converts { IfOk result (ConvertsEntry airport.now bytes.now) }
     ensures some { IfOk result (λ new. 1 ≤ length new) }
     ensures most { IfOk result (λ new. length new ≤ most_bytes) }
-    ensures same { IfOk result
-        (λ new. decode_entry airport.now new ≡ decode_former_entry airport.now bytes.now) }
+    ensures none { IfErr result
+        (λ fault. fault ≢ EntryFault.Memory → SpeltNone airport.now bytes.now) }
+    ensures fault { IfErr result (λ fault. fault ≢ EntryFault.Memory
+        → IsFirstFault former_fields airport.now bytes.now fault) }
 {
     match read_former(alloc, airport, bytes) {
         Ok(entry) => match encode_entry(alloc, &entry) {
@@ -81,20 +83,3 @@ pub fn convert_entry(
         Err(fault) => Err(entry_fault(fault)),
     }
 }
-
-/// Each entry of an airport, with the desk `-` if it is a message or a report, was read back from
-/// the bytes that it had.
-pub fn former_entries_are_read_back()
-    ensures read_back { FormerEntryIsReadBack }
-{}
-
-/// Bytes that were read as an entry are the bytes that it had, and no others. The entry is one of
-/// the airport, with the desk `-` if it is a message or a report.
-pub fn former_entries_are_spelt()
-    ensures spelt { FormerEntryIsSpelt }
-{}
-
-/// A fault in what was an entry is at one of the first 672 places.
-pub fn former_faults_are_near()
-    ensures near { FormerFaultIsNear }
-{}

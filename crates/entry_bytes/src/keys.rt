@@ -1,48 +1,45 @@
 // The keys of visits as bytes.
 ghost use Rattle.std.specs.Prelude.{◌≡◌, ◌++◌, IfSome, OnOk, IsTrue, ◌↔◌};
+ghost use Rattle.std.specs.List.{flat_map};
+ghost use Rattle.apron_base.specs.Histories.{Every};
 ghost use Rattle.mvt_grammar.specs.Bytes.{is_capital};
 ghost use Rattle.mvt_grammar.specs.Flights.{is_airline};
 ghost use Rattle.entry_bytes.specs.Gives.{GivesReading};
-ghost use Rattle.entry_bytes.specs.Keys.{is_suffix_byte, key_bytes, optional_key_text, parse_key, parse_optional_key, suffix_byte, suffix_of};
+ghost use Rattle.entry_bytes.specs.Fields.{Fits, field_bytes};
+ghost use Rattle.entry_bytes.specs.Keys.{key_fields, optional_key_fields};
+ghost use Rattle.entry_bytes.specs.Parsing.{is_suffix_byte, parse_key, parse_optional_key, suffix_of};
 ghost use Rattle.entry_bytes.specs.Readings.{byte, such_that, text};
 
 use crate::faults::ReadFault;
 use crate::reader::{Reader, in_form};
-use crate::writing::{push_name, push_u16};
+use crate::writing::{push_name, push_u8, push_u16};
 use apron_base::{Memory, Name};
 use apron_rules::Airport;
 use mvt_grammar::{Flight, is_flight};
 use visit_book::Key;
 
 fn push_key(out: &mut Vec<u8>, key: &Key) -> Result<(), Memory>
-    ensures text { OnOk result (out.new.items ≡ out.old.items ++ key_bytes key.now) }
+    ensures text { OnOk result
+        (out.new.items ≡ out.old.items ++ flat_map field_bytes (key_fields key.now)) }
+    ensures fits { OnOk result (Every Fits (key_fields key.now)) }
 {
     push_name(out, &key.flight.airline)?;
     push_u16(out, key.flight.number)?;
-    out.push(suffix_byte(key.flight.suffix))?;
-    out.push(key.day)?;
-    Ok(())
+    push_u8(out, key.flight.suffix.unwrap_or(0))?;
+    push_u8(out, key.day)
 }
 
 pub(crate) fn push_optional_key(out: &mut Vec<u8>, key: &Option<Key>) -> Result<(), Memory>
-    ensures text { OnOk result (out.new.items ≡ out.old.items ++ optional_key_text key.now) }
+    ensures text { OnOk result
+        (out.new.items ≡ out.old.items ++ flat_map field_bytes (optional_key_fields key.now)) }
+    ensures fits { OnOk result (Every Fits (optional_key_fields key.now)) }
 {
     match key {
-        None => out.push(0)?,
+        None => push_u8(out, 0),
         Some(key) => {
-            out.push(1)?;
-            push_key(out, key)?;
+            push_u8(out, 1)?;
+            push_key(out, key)
         }
-    }
-    Ok(())
-}
-
-fn suffix_byte(suffix: Option<u8>) -> u8
-    ensures is { result ≡ suffix_byte suffix }
-{
-    match suffix {
-        Some(byte) => byte,
-        None => 0,
     }
 }
 
@@ -77,7 +74,7 @@ fn suffix_at(reader: &mut Reader<'_>) -> Result<u8, ReadFault>
     Ok(suffix)
 }
 
-#[tactic(auto, unfolding(crate::specs::Keys::parse_key))]
+#[tactic(auto, unfolding(crate::specs::Parsing::parse_key))]
 fn parse_key(reader: &mut Reader<'_>, airport: &Airport) -> Result<Key, ReadFault>
     ensures is { GivesReading result reader.new (parse_key airport.now reader.old) }
 {
@@ -103,7 +100,7 @@ fn suffix_of(byte: u8) -> Option<u8>
     if byte == 0 { None } else { Some(byte) }
 }
 
-#[tactic(auto, unfolding(crate::specs::Keys::parse_optional_key))]
+#[tactic(auto, unfolding(crate::specs::Parsing::parse_optional_key))]
 pub(crate) fn parse_optional_key(
     reader: &mut Reader<'_>,
     airport: &Airport,

@@ -1,24 +1,23 @@
 // What holds between entries and their bytes, for all of them. Each law is the contract of a
 // function that does nothing.
-ghost use Rattle.entry_bytes.specs.Laws.{EntryIsReadBack, EntryIsShort, EntryIsSpelt, FaultIsNear};
+ghost use Rattle.entry_bytes.specs.Entries.{entry_fields};
+ghost use Rattle.entry_bytes.specs.Former.{former_fields};
+ghost use Rattle.entry_bytes.specs.Laws.{EntriesDiffer, EntryIsShort, FaultIsOne, FormerEntriesDiffer};
 
-/// Each entry of an airport is read back from its bytes.
-pub fn entries_are_read_back()
-    ensures read_back { EntryIsReadBack }
+/// No two entries of an airport have the same bytes, nor had they before messages and reports named
+/// their desk.
+pub fn entries_differ()
+    ensures differ { EntriesDiffer }
+    ensures former { FormerEntriesDiffer }
 {}
 
-/// Bytes that are read as an entry are the bytes of that entry, and no others, and it is an entry
-/// of the airport.
-pub fn entries_are_spelt()
-    ensures spelt { EntryIsSpelt }
+/// Bytes have at most one first fault, and had before messages and reports named their desk.
+pub fn faults_are_one()
+    ensures one { FaultIsOne entry_fields }
+    ensures former { FaultIsOne former_fields }
 {}
 
 /// An entry has at most 671 bytes.
 pub fn entries_are_short()
     ensures short { EntryIsShort }
-{}
-
-/// A fault is at one of the first 672 places.
-pub fn faults_are_near()
-    ensures near { FaultIsNear }
 {}

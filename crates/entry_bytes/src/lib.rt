@@ -16,7 +16,5 @@ mod writing;
 
 pub use entries::{decode_entry, encode_entry};
 pub use faults::EntryFault;
-pub use former::{
-    convert_entry, former_entries_are_read_back, former_entries_are_spelt, former_faults_are_near,
-};
-pub use laws::{entries_are_read_back, entries_are_short, entries_are_spelt, faults_are_near};
+pub use former::convert_entry;
+pub use laws::{entries_are_short, entries_differ, faults_are_one};

@@ -2,7 +2,9 @@
 ghost use Rattle.std.specs.Prelude.{◌≡◌, ◌++◌, IfOk, OnOk};
 ghost use Rattle.mvt_grammar.specs.Readable.{IsReadable};
 ghost use Rattle.entry_bytes.specs.Gives.{GivesReading};
-ghost use Rattle.entry_bytes.specs.Messages.{canonical_message, message_text, parse_message};
+ghost use Rattle.entry_bytes.specs.Fields.{text_field, field_bytes};
+ghost use Rattle.entry_bytes.specs.Parsing.{canonical_message, parse_message};
+ghost use Rattle.mvt_grammar.specs.Canonical.{canonical};
 
 use crate::faults::ReadFault;
 use crate::reader::Reader;
@@ -12,7 +14,8 @@ use std::alloc::Global;
 
 pub(crate) fn push_message(alloc: Global, out: &mut Vec<u8>, message: &Mvt) -> Result<(), Memory>
     requires readable { IsReadable message.now }
-    ensures text { OnOk result (out.new.items ≡ out.old.items ++ message_text message.now) }
+    ensures text { OnOk result
+        (out.new.items ≡ out.old.items ++ field_bytes (text_field (canonical message.now))) }
 {
     let text = write_mvt(alloc, message)?;
     out.push(text.len() as u8)?;
@@ -20,7 +23,7 @@ pub(crate) fn push_message(alloc: Global, out: &mut Vec<u8>, message: &Mvt) -> R
     Ok(())
 }
 
-#[tactic(auto, unfolding(crate::specs::Messages::parse_message))]
+#[tactic(auto, unfolding(crate::specs::Parsing::parse_message))]
 pub(crate) fn parse_message(alloc: Global, reader: &mut Reader<'_>) -> Result<Mvt, ReadFault>
     ensures is { GivesReading result reader.new (parse_message reader.old) }
 {

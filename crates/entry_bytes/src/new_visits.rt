@@ -1,16 +1,17 @@
 // What a visit is added with, as bytes.
 ghost use Rattle.std.specs.Prelude.{◌≡◌, ◌++◌, ◌<◌, length, IfSome, OnOk};
 ghost use Rattle.apron_rules.specs.Rules.{least_of};
-ghost use Rattle.entry_bytes.specs.Widths.{VisitFits};
+ghost use Rattle.apron_base.specs.Histories.{Every};
+ghost use Rattle.entry_bytes.specs.Fields.{Fits, field_bytes};
 ghost use Rattle.entry_bytes.specs.Gives.{GivesReading};
-ghost use Rattle.entry_bytes.specs.NewVisits.{is_off_of, new_visit_text, parse_new_visit};
-ghost use Rattle.entry_bytes.specs.Readings.{number, such_that};
-ghost use Rattle.std.specs.Int.{w32};
+ghost use Rattle.entry_bytes.specs.NewVisits.{is_off_of, new_visit_fields};
+ghost use Rattle.entry_bytes.specs.Parsing.{parse_new_visit};
+ghost use Rattle.std.specs.List.{flat_map};
 
 use crate::faults::ReadFault;
 use crate::keys::{parse_optional_key, push_optional_key};
 use crate::reader::{Reader, in_form};
-use crate::writing::{push_name, push_u16, push_u32};
+use crate::writing::{push_name, push_u8, push_u16, push_u32};
 use apron_base::{Memory, Minute, TypeNo};
 use apron_rules::Airport;
 use visit_book::NewVisit;
@@ -19,12 +20,13 @@ use visit_book::NewVisit;
 const GREATEST_CLASS: u8 = 9;
 
 pub(crate) fn push_new_visit(out: &mut Vec<u8>, new: &NewVisit) -> Result<(), Memory>
-    ensures text { OnOk result (out.new.items ≡ out.old.items ++ new_visit_text new.now) }
-    ensures fits { OnOk result (VisitFits new.now) }
+    ensures text { OnOk result
+        (out.new.items ≡ out.old.items ++ flat_map field_bytes (new_visit_fields new.now)) }
+    ensures fits { OnOk result (Every Fits (new_visit_fields new.now)) }
 {
     push_name(out, &new.name)?;
     push_u16(out, new.kind.0)?;
-    out.push(new.class)?;
+    push_u8(out, new.class)?;
     push_u32(out, new.on)?;
     push_u32(out, new.off)?;
     push_optional_key(out, &new.arr)?;
@@ -47,7 +49,7 @@ fn is_off_of(airport: &Airport, kind: TypeNo, on: Minute, off: Minute) -> bool
     off <= airport.minutes() && on <= off && off - on >= least_of(airport, kind)
 }
 
-#[tactic(auto, unfolding(crate::specs::NewVisits::parse_new_visit))]
+#[tactic(auto, unfolding(crate::specs::Parsing::parse_new_visit))]
 pub(crate) fn parse_new_visit(
     reader: &mut Reader<'_>,
     airport: &Airport,

@@ -1,5 +1,5 @@
 -- Histories that are read entry for entry.
-use Rattle.std.proofs.Common.{◌≡◌, ◌≢◌, ◌∙◌, ◌<◌, ◌≤◌, ◌+◌, ◌∷◌, ◌++◌, [], ℕ, List, Result, Ok, Err, take, drop, drop-cons, get_or, suc, None, IfSome, length, refl, ap, sym, subst, arith}
+use Rattle.std.proofs.Common.{◌≡◌, ◌≢◌, ◌∙◌, ◌<◌, ◌≤◌, ◌+◌, ◌∷◌, ◌++◌, [], ℕ, List, Option, take, drop, drop-cons, get_or, suc, None, IfSome, length, refl, ap, sym, subst, arith}
 use Rattle.std.proofs.lemmas.List.{take-append-drop}
 use Rattle.apron_base.specs.Histories.{Rises}
 use Rattle.apron_base.specs.Keeper.{KeeperState, with_last}
@@ -13,8 +13,8 @@ use Rattle.entry_bytes.specs.declared.faults.EntryFault.{EntryFault}
 use Rattle.entry_bytes.specs.declared.faults.EntryFault.TheVariants as unread
 use Rattle.history_core.specs.declared.opening.OpenFault.{OpenFault}
 use Rattle.history_core.specs.declared.opening.OpenFault.TheVariants.{BadEntry, WrongEntry, Memory}
-use Rattle.entry_bytes.specs.Entries.{decode_entry, entry_text}
-use Rattle.history_core.specs.Board.{BoardHeld, IsBoard, Spells, entry_texts}
+use Rattle.entry_bytes.specs.Entries.{IsEntryOf, SpellsNone}
+use Rattle.history_core.specs.Board.{BoardHeld, IsBoard, IsKeeperOf, Spells, entry_texts}
 use Rattle.history_core.specs.Bumped.{bumped_in, last_bumped}
 use Rattle.history_core.specs.History.{AreTakenFrom, IsLegal, after_entries, call_limit, call_of, replay}
 use Rattle.history_core.specs.Opening.{CannotOpen, IsNotNext, IsOpening, IsReplayed, OpeningHeld, next_from, not_read}
@@ -22,7 +22,7 @@ use Rattle.history_core.specs.Acceptance.{IsTaken, TakenAs, accepted, after_comm
 use Rattle.history_core.specs.Taking.{IsAnswered}
 use Rattle.history_core.proofs.Boards.{legal_pushed, plan_numbered, plan_version}
 use Rattle.history_core.proofs.Bumps.{told_bumped}
-use Rattle.history_core.proofs.Keepers.{kept_opened, spells_with}
+use Rattle.history_core.proofs.Keepers.{every_push, kept_opened}
 use Rattle.history_core.proofs.Replay.{after-push}
 use Rattle.history_core.proofs.Takings.{one_step}
 
@@ -88,18 +88,17 @@ pub opening_begun : (airport : AirportParts) (plan : PlanState) → plan ≡ emp
     → IsOpening plan [] 1 (record { airport = airport; history = [] })
 opening_begun airport plan is = record {
   past = record { legal = record { taken = tt; numbers = omega arith }; plan_is = is; next_is = refl };
-  spells = refl;
+  each = tt;
   bumped_is = sym (ap last_bumped is);
 }
 
 -- one more entry was read
-pub opening_pushed : (opening : OpeningHeld) (plan new : PlanState) (bumped lost : List PartId) (next : ℕ) (entry : Entry) (bytes : List ℕ) (history : List Entry)
-    → IsOpening plan bumped next opening → IsCommandOf opening.airport entry.command → TakenAs plan (length opening.history) entry.command accepted
-    → next ≤ entry.call → entry.call < call_limit → new ≡ after_command plan entry.command → history ≡ with_last entry opening.history
-    → decode_entry opening.airport bytes ≡ Ok entry → bytes ≡ entry_text entry
+pub opening_pushed : (opening : OpeningHeld) (plan new : PlanState) (bumped lost : List PartId) (next : ℕ) (entry : Entry) (history : List Entry)
+    → IsOpening plan bumped next opening → IsEntryOf opening.airport entry → TakenAs plan (length opening.history) entry.command accepted
+    → next ≤ entry.call → new ≡ after_command plan entry.command → history ≡ with_last entry opening.history
     → lost ≡ bumped_in (made_told plan (plan.version + 1) entry.command)
     → IsOpening new lost (entry.call + 1) (record { airport = opening.airport; history = history })
-opening_pushed opening plan new bumped lost next entry bytes history h valid steps up last is history_is read text lost_is =
+opening_pushed opening plan new bumped lost next entry history h entry_is steps up is history_is lost_is =
     let airport = opening.airport in
     let before = opening.history in
     let past : IsReplayed airport plan before next = h.past in
@@ -108,8 +107,8 @@ opening_pushed opening plan new bumped lost next entry bytes history h valid ste
     let at_plan : bumped_in (made_told plan (plan.version + 1) entry.command) ≡ last_bumped (after_command plan entry.command) =
     subst (λ (p : PlanState). bumped_in (made_told p (p.version + 1) entry.command) ≡ last_bumped (after_command p entry.command)) (sym past.plan_is) made in
     subst (λ (es : List Entry). IsOpening new lost (entry.call + 1) (record { airport = airport; history = es })) (sym history_is) (record {
-      past = past_pushed airport plan new before next entry past valid steps up last is;
-      spells = spells_with airport before entry h.spells (subst (λ (b : List ℕ). decode_entry airport b ≡ Ok entry) text read);
+      past = past_pushed airport plan new before next entry past entry_is.command steps up entry_is.call is;
+      each = every_push (IsEntryOf airport) before entry h.each entry_is;
       bumped_is = lost_is ∙ (at_plan ∙ ap last_bumped (sym is));
     })
 
@@ -119,15 +118,12 @@ pub past_counted : (airport : AirportParts) (plan : PlanState) (history : List E
 past_counted airport plan history next version past is = ap (λ n. n + 1) (is ∙ plan_version airport history plan past.plan_is past.legal)
 
 -- bytes that are not read are not the next entry
-pub not_read_is_not_next : (airport : AirportParts) (before : List Entry) (bytes : List ℕ) (number : ℕ) (fault : EntryFault) (read : Result Entry EntryFault)
-    → number ≡ length before + 1 → read ≡ Err fault → (read ≢ Err unread.Memory → read ≡ decode_entry airport bytes) → IsNotNext airport before bytes (not_read number fault)
-not_read_is_not_next airport before bytes number unread.Memory read counted is gives = tt
-not_read_is_not_next airport before bytes number unread.BadKind read counted is gives =
-    (counted, (unread.BadKind, sym (gives (λ memory. absurd (cc))) ∙ is))
-not_read_is_not_next airport before bytes number (unread.BadField at) read counted is gives =
-    (counted, (unread.BadField at, sym (gives (λ memory. absurd (cc))) ∙ is))
-not_read_is_not_next airport before bytes number (unread.TrailingBytes at) read counted is gives =
-    (counted, (unread.TrailingBytes at, sym (gives (λ memory. absurd (cc))) ∙ is))
+pub not_read_is_not_next : (airport : AirportParts) (before : List Entry) (bytes : List ℕ) (number : ℕ) (fault : EntryFault)
+    → number ≡ length before + 1 → (fault ≢ unread.Memory → SpellsNone airport bytes) → IsNotNext airport before bytes (not_read number fault)
+not_read_is_not_next airport before bytes number unread.Memory counted none = tt
+not_read_is_not_next airport before bytes number unread.BadKind counted none = (counted, none (λ memory. absurd (cc)))
+not_read_is_not_next airport before bytes number (unread.BadField at) counted none = (counted, none (λ memory. absurd (cc)))
+not_read_is_not_next airport before bytes number (unread.TrailingBytes at) counted none = (counted, none (λ memory. absurd (cc)))
 
 -- the first bytes that are not the next entry
 pub stops_at : (airport : AirportParts) (entries front : List (List ℕ)) (bytes : List ℕ) (back : List (List ℕ)) (before : List Entry) (fault : OpenFault)
@@ -146,7 +142,7 @@ pub stops_there : (opening : OpeningHeld) (plan : PlanState) (bumped : List Part
 stops_there opening plan bumped next bytes fault h why back =
     let past : IsReplayed opening.airport plan opening.history next = h.past in
     stops_at opening.airport (entry_texts opening.history ++ bytes ∷ back) (entry_texts opening.history) bytes back opening.history fault refl
-    h.spells past.legal why
+    (refl, h.each) past.legal why
 
 -- the bytes at a place, with those before and after them
 pub parted_at : (entries : List (List ℕ)) (place : ℕ) (bytes : List ℕ) → place < length entries → bytes ≡ get_or entries place bytes
@@ -168,9 +164,9 @@ stops_among airport entries opening place bytes item fault airport_is front byte
 -- a board over a keeper that was just opened
 pub board_opened : {K : Type 0} (plan : PlanState) (bumped : List PartId) (keeper : KeeperState) (board : BoardHeld K)
     → IsOpening plan bumped board.next (record { airport = board.airport; history = board.history })
-    → IfSome keeper.entries (λ es. es ≡ entry_texts board.history) → keeper.number ≡ length (entry_texts board.history) → keeper.at_risk ≡ None
+    → IfSome keeper.entries (λ es. es ≡ entry_texts board.history) → keeper.number ≡ length (entry_texts board.history) → keeper.at_risk ≡ None → board.at_risk ≡ None
     → IsBoard plan bumped keeper board
-board_opened plan bumped keeper board h entries number none =
+board_opened plan bumped keeper board h entries number none safe =
     let past : IsReplayed board.airport plan board.history board.next = h.past in
     let legal : IsLegal board.airport board.history = past.legal in
     let numbers = next_rises 1 call_limit board.history legal.numbers in
@@ -181,5 +177,5 @@ board_opened plan bumped keeper board h entries number none =
       bumped_is = h.bumped_is;
       numbers = subst (λ (n : ℕ). Rises call_of 1 n board.history) (sym past.next_is) numbers;
       calls = subst (λ (n : ℕ). n ≤ call_limit) (sym past.next_is) within;
-      kept = kept_opened board.airport board.history keeper entries number none h.spells;
+      kept = subst (λ (risk : Option Entry). IsKeeperOf board.airport board.history risk keeper) (sym safe) (kept_opened board.airport board.history keeper entries number none h.each);
     }

@@ -1,5 +1,6 @@
 -- What opening a board over kept entries gives.
-use Rattle.std.specs.Prelude.{◌≡◌, ◌+◌, ℕ, List, [], ◌∷◌, ◌++◌, length, Ok, Err}
+use Rattle.std.specs.Prelude.{◌≡◌, ◌+◌, ℕ, List, [], ◌∷◌, ◌++◌, length, None}
+use Rattle.apron_base.specs.Histories.{Every}
 use Rattle.apron_base.specs.Keeper.{with_last}
 use Rattle.apron_base.specs.declared.numbers.PartId.{PartId}
 use Rattle.apron_rules.specs.declared.parts.AirportParts.{AirportParts}
@@ -7,10 +8,10 @@ use Rattle.plan_core.specs.PlanState.{PlanState}
 use Rattle.desk_asks.specs.declared.asks.Entry.{Entry}
 use Rattle.entry_bytes.specs.declared.faults.EntryFault.{EntryFault}
 use Rattle.entry_bytes.specs.declared.faults.EntryFault.TheVariants as unread
-use Rattle.entry_bytes.specs.Entries.{decode_entry, entry_text}
+use Rattle.entry_bytes.specs.Entries.{IsEntryOf, SpellsEntry, SpellsNone}
 use Rattle.history_core.specs.declared.opening.OpenFault.{OpenFault}
 use Rattle.history_core.specs.declared.opening.OpenFault.TheVariants.{BadEntry, WrongEntry, Memory}
-use Rattle.history_core.specs.Board.{BoardHeld, Spells, entry_texts}
+use Rattle.history_core.specs.Board.{BoardHeld, Spells}
 use Rattle.history_core.specs.Bumped.{last_bumped}
 use Rattle.history_core.specs.History.{IsLegal, replay}
 
@@ -30,26 +31,26 @@ pub record OpeningHeld : Type 0 where
   pub airport : AirportParts
   pub history : List Entry
 
--- a board was opened over the keeper of these bytes: the history is what they are read as, and is
--- legal
+-- a board was opened over the keeper of these bytes: they are those of its history, which is legal
 pub record OpensBoard {K : Type 0} (airport : AirportParts) (kept : K) (entries : List (List ℕ))
     (board : BoardHeld K) : Type 0 where
   pub keeper : board.keeper ≡ kept
   pub airport_is : board.airport ≡ airport
   pub spells : Spells airport entries board.history
-  pub texts : entries ≡ entry_texts board.history
   pub legal : IsLegal airport board.history
+  pub at_risk : board.at_risk ≡ None
   pub next : board.next ≡ next_after board.history
 
 -- why these bytes are not the next entry of a history, with the number that it would have: they are
--- read as no entry, or as one with which the history is not legal; or there is no memory
+-- those of no entry of the airport, or of one with which the history is not legal; or there is no
+-- memory
 abbrev pub IsNotNext : AirportParts → List Entry → List ℕ → OpenFault → Type 0
-IsNotNext airport before bytes (BadEntry number) = (number ≡ length before + 1)
-    × ((fault : EntryFault) × (decode_entry airport bytes ≡ Err fault))
+IsNotNext airport before bytes (BadEntry number) =
+    (number ≡ length before + 1) × SpellsNone airport bytes
 IsNotNext airport before bytes (WrongEntry number) =
     (number ≡ length before + 1)
     × ((entry : Entry)
-    × (decode_entry airport bytes ≡ Ok entry)
+    × SpellsEntry airport bytes entry
     × ¬ (IsLegal airport (with_last entry before)))
 IsNotNext airport before bytes Memory = Unit {0}
 
@@ -58,7 +59,7 @@ abbrev pub not_read : ℕ → EntryFault → OpenFault
 not_read number unread.Memory = Memory
 not_read number fault = BadEntry number
 
--- the first of these bytes that are not the next entry: those before them are read as a legal
+-- the first of these bytes that are not the next entry: those before them are the bytes of a legal
 -- history
 pub record StopsAt (airport : AirportParts) (entries : List (List ℕ))
     (fault : OpenFault) : Type 0 where
@@ -85,19 +86,18 @@ pub record IsReplayed (airport : AirportParts) (plan : PlanState) (history : Lis
   pub plan_is : plan ≡ replay airport history
   pub next_is : next ≡ next_after history
 
--- one more entry was read: these bytes are read as the last entry of the history
+-- one more entry was read: these are the bytes of the last entry of the history
 pub record IsReadOn (airport : AirportParts) (before after : List Entry)
     (bytes : List ℕ) : Type 0 where
   pub entry : Entry
-  pub is : decode_entry airport bytes ≡ Ok entry
-  pub text : bytes ≡ entry_text entry
+  pub is : SpellsEntry airport bytes entry
   pub last : after ≡ with_last entry before
 
 -- what holds of every board that is being opened, with its plan, the parts that it keeps as
--- bumped, and the least number of its next call: its history was read so far, its entries' bytes
--- are read as it, and the parts lost their stands by the last entry
+-- bumped, and the least number of its next call: its history was read so far, each entry is one of
+-- the airport, and the parts lost their stands by the last entry
 pub record IsOpening (plan : PlanState) (bumped : List PartId) (next : ℕ)
     (opening : OpeningHeld) : Type 0 where
   pub past : IsReplayed opening.airport plan opening.history next
-  pub spells : Spells opening.airport (entry_texts opening.history) opening.history
+  pub each : Every (IsEntryOf opening.airport) opening.history
   pub bumped_is : bumped ≡ last_bumped plan

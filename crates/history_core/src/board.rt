@@ -34,8 +34,8 @@ use visit_book::Visit;
 /// The plan of one airport, with the history of accepted commands that made it from a plan without
 /// visits, over a keeper of its entries. The keeper has each entry before the plan shows it.
 ///
-/// Contracts see the keeper, the airport, the history, and the least number that the next call may
-/// have.
+/// Contracts see the keeper, the airport, the history, the entry at risk, and the least number that
+/// the next call may have.
 #[derive(Drop)]
 pub struct Board<'a, K: Keeper> {
     airport: &'a Airport,
@@ -47,6 +47,7 @@ pub struct Board<'a, K: Keeper> {
 }
 
 impl<'a, K: Keeper> Model for Board<'a, K> {
+    ghost use Rattle.history_core.specs.AtRisk.{entry_read};
     ghost use Rattle.history_core.specs.Board.{BoardHeld, IsBoard};
 
     ghost Value = { BoardHeld K };
@@ -55,6 +56,7 @@ impl<'a, K: Keeper> Model for Board<'a, K> {
       keeper = b.keeper;
       airport = b.airport.now;
       history = b.history.items;
+      at_risk = entry_read b.airport.now (K.state b.keeper).at_risk;
       next = b.next;
     } };
 
@@ -63,15 +65,16 @@ impl<'a, K: Keeper> Model for Board<'a, K> {
           keeper = b.keeper;
           airport = b.airport.now;
           history = b.history.items;
+          at_risk = entry_read b.airport.now (K.state b.keeper).at_risk;
           next = b.next;
         }) };
 }
 
 impl<'a, K: Keeper> Board<'a, K> {
-    /// A board over a keeper that has these entries and none at risk. Its history is what they are
-    /// read as. Its first call may have a number above the last entry's, or any from 1 on if there
-    /// is no entry. `Err` names the first entry that is refused, or says that there is no memory.
-    /// Either way the keeper is as it was.
+    /// A board over a keeper that has these entries and none at risk: they are its history. Its
+    /// first call may have a number above the last entry's, or any from 1 on if there is no entry.
+    /// `Err` names the first entry that is refused, or says that there is no memory. Either way the
+    /// keeper is as it was.
     pub fn open(
         alloc: Global,
         airport: &'a Airport,
@@ -92,10 +95,11 @@ impl<'a, K: Keeper> Board<'a, K> {
         }
     }
 
-    /// The keeper as it is, which keeps the board's history.
+    /// The keeper as it is, which keeps the board's history and the entry at risk.
     pub fn into_keeper(self) -> K
         ensures keeper { result ≡ self.entry.keeper }
-        ensures kept { IsKeeperOf self.entry.airport self.entry.history (K.state result) }
+        ensures kept { IsKeeperOf self.entry.airport self.entry.history self.entry.at_risk
+            (K.state result) }
         ensures legal { IsLegal self.entry.airport self.entry.history }
     {
         self.keeper
@@ -173,8 +177,7 @@ impl<'a, K: Keeper> Board<'a, K> {
             ask.now.what (is_keeper_fault result)
             (history_at_risk_of (machine_state K.state self.new)) }
         ensures question { let plan = replay self.old.airport self.old.history in
-            IsTold (ask_outcome plan self.old.history ask.now)
-            → self.new.keeper ≡ self.old.keeper }
+            IsTold (ask_outcome plan self.old.history ask.now) → self.new ≡ self.old }
     {
         if ask.seen > self.plan.version() {
             return self.reply_with(alloc, ReplyBody::Ahead);

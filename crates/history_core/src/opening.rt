@@ -129,7 +129,7 @@ impl<'a> Opening<'a> {
     }
 }
 
-/// The history that these bytes are read as, entry for entry. `Err` names the first entry that is
+/// The history of these bytes, entry for entry. `Err` names the first entry that is
 /// refused, or says that there is no memory.
 pub(crate) fn opening_of<'a>(
     alloc: Global,

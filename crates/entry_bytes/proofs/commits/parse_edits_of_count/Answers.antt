@@ -1,5 +1,5 @@
 use Rattle.std.proofs.lemmas.Result.{err_from_is_err_and}
-use Rattle.entry_bytes.specs.Commits.{parse_edit}
+use Rattle.entry_bytes.specs.Parsing.{parse_edit}
 use Rattle.entry_bytes.specs.Readings.{parse_many}
 use Rattle.entry_bytes.proofs.Loops.{ends, goes_on, is_done}
 use Rattle.entry_bytes.proofs.commits.parse_edits_of_count.Goals as goal

@@ -1,5 +1,5 @@
 use Rattle.std.proofs.Common.{◌≡◌, ◌-◌}
-use Rattle.entry_bytes.specs.Commits.{parse_edit}
+use Rattle.entry_bytes.specs.Parsing.{parse_edit}
 use Rattle.entry_bytes.specs.Readings.{parse_many}
 use Rattle.entry_bytes.proofs.Loops.{with_front}
 use Rattle.entry_bytes.proofs.commits.parse_edits_of_count.Given as goal

@@ -1,9 +1,9 @@
-use Rattle.std.proofs.Common.{◌≡◌, ◌+◌, ◌≤◌, Bool, arith, sym, subst}
+use Rattle.std.proofs.Common.{◌≡◌, ◌+◌, ◌≤◌, Bool, ap, arith, sym, subst}
 use Rattle.apron_base.specs.Counts.{Counts}
 use Rattle.apron_base.specs.Machine.{history_at_risk_of}
 use Rattle.apron_base.proofs.Rising.{rises_more}
 use Rattle.history_core.specs.Answer.{GivesText, ask_outcome, is_keeper_fault}
-use Rattle.history_core.specs.AtRisk.{LeavesAtRisk, read_entry_at_risk}
+use Rattle.history_core.specs.AtRisk.{LeavesAtRisk, entry_read}
 use Rattle.history_core.specs.History.{IsLegal, call_of, replay}
 use Rattle.history_core.specs.Board.{BoardHeld, machine_state}
 use Rattle.history_core.proofs.Boards.{board_called}
@@ -13,7 +13,7 @@ use Rattle.history_core.proofs.board.Board.ask.Goals as goal
 pub invariant_of-self : goal.invariant_of-self
 invariant_of-self g c =
     let inside = c.self.inside in
-    let board : BoardHeld g.row.K.Denot = record { keeper = inside.keeper; airport = inside.airport.now; history = inside.history.items; next = inside.next } in
+    let board : BoardHeld g.row.K.Denot = record { keeper = inside.keeper; airport = inside.airport.now; history = inside.history.items; at_risk = entry_read inside.airport.now (g.K.Keeper.state inside.keeper).at_risk; next = inside.next } in
     let up = subst (λ (b : BoardHeld g.row.K.Denot). b.next ≤ c.args.call + 1) (sym c.self.view_is) c.answer-answered.ensures.next in
     board_called inside.plan.plan inside.bumped (g.K.Keeper.state inside.keeper) board (c.args.call + 1) c.self.invariant up (omega (arith, c.requires.last))
 
@@ -44,7 +44,8 @@ returns-clause-asks g c =
       found = found_legal old.airport plan old.history call outcome answered inside.history.items gives (subst (λ a. IsLegal a inside.history.items) airport c.self.invariant.legal);
       legal = c.self.invariant.legal;
       faults = subst (λ (failed : Bool). Counts failed (tells old.keeper).faults (tells inside.keeper).faults) (sym c.acted_of.ensures.fault) counts;
-      at_risk = subst (λ (failed : Bool). LeavesAtRisk risk call ask.what failed (record { entries = inside.history.items; at_risk = read_entry_at_risk inside.airport.now (tells inside.keeper) }))
+      at_risk = subst (λ (failed : Bool). LeavesAtRisk risk call ask.what failed (record { entries = inside.history.items; at_risk = entry_read inside.airport.now (tells inside.keeper).at_risk }))
           (sym c.acted_of.ensures.fault) leaves;
-      question = λ told. subst (λ (b : BoardHeld g.row.K.Denot). b.keeper ≡ old.keeper) (sym c.self.view_is) (c.answer-answered.ensures.question told);
+      question = λ told. subst (λ (b : BoardHeld g.row.K.Denot). record b { next = call + 1 } ≡ record old { next = call + 1 }) (sym c.self.view_is)
+          (ap (λ (b : BoardHeld g.row.K.Denot). record b { next = call + 1 }) (c.answer-answered.ensures.question told));
     }

@@ -17,9 +17,9 @@ pub returns-in-Err-clause-refused : goal.returns-in-Err-clause-refused
 returns-in-Err-clause-refused c =
     let inside = c.self.inside in
     let held : OpeningHeld = record { airport = inside.airport.now; history = inside.history.items } in
-    let why = not_read_is_not_next inside.airport.now inside.history.items c.args.bytes.now (c.version-number.result + 1) c.in-Err.fault c.decode_entry.result
+    let why = not_read_is_not_next inside.airport.now inside.history.items c.args.bytes.now (c.version-number.result + 1) c.in-Err.fault
     (past_counted inside.airport.now inside.plan.plan inside.history.items inside.next c.version-number.result c.self.invariant.past c.version-number.ensures.value)
-    c.in-Err.is c.decode_entry.ensures.is in
+    c.in-Err.ensures.none in
     λ back. rw (c.not_read.ensures.is, ← c.self.view_is)
     (stops_there held inside.plan.plan inside.bumped inside.next c.args.bytes.now (not_read (c.version-number.result + 1) c.in-Err.fault) c.self.invariant why back)
 
@@ -31,7 +31,7 @@ returns-then-entry-self-clause-refused c =
       past_counted inside.airport.now inside.plan.plan inside.history.items inside.next c.version-number.result c.self.invariant.past c.version-number.ensures.value,
       (
         c.in-Ok.entry,
-        sym (c.in-Ok.ensures.is (λ memory. absurd (cc))),
+        c.in-Ok.ensures.entry,
         called_too_early inside.airport.now inside.history.items c.in-Ok.entry
             (subst (λ (n : ℕ). c.in-Ok.entry.call < n) c.self.invariant.past.next_is c.if-entry-self.true),
       ),
@@ -66,9 +66,8 @@ invariant_of-self-in-Accepted c =
     let made : c.install.new.self.plan ≡ after_command plan entry.command =
     c.install.ensures.plan ∙ (ap (λ (p : PlanState). plan_after_change p c.in-Accepted.change) c.make_room.ensures.plan ∙ counted.1.makes) in
     let items : c.push_reserved.new.self.items ≡ with_last entry inside.history.items = c.push_reserved.ensures.items ∙ rw c.make_room.ensures.entries refl in
-    opening_pushed held plan c.install.new.self.plan inside.bumped c.bumped_in.result inside.next entry c.args.bytes.now c.push_reserved.new.self.items
-    c.self.invariant c.in-Ok.ensures.entry.command counted.0 c.if-entry-self.false c.in-Ok.ensures.entry.call made items
-    (sym (c.in-Ok.ensures.is (λ memory. absurd (cc)))) c.in-Ok.ensures.spelt
+    opening_pushed held plan c.install.new.self.plan inside.bumped c.bumped_in.result inside.next entry c.push_reserved.new.self.items
+    c.self.invariant c.in-Ok.ensures.entry.0 counted.0 c.if-entry-self.false made items
     (c.bumped_in.ensures.is ∙ ap (λ (r : Reply). bumped_in r.told) counted.2)
 
 pub returns-in-Answered-clause-refused : goal.returns-in-Answered-clause-refused
@@ -83,7 +82,7 @@ returns-in-Answered-clause-refused c =
       past_counted inside.airport.now plan inside.history.items inside.next c.version-number.result c.self.invariant.past c.version-number.ensures.value,
       (
         entry,
-        sym (c.in-Ok.ensures.is (λ memory. absurd (cc))),
+        c.in-Ok.ensures.entry,
         answered_is_not_next inside.airport.now plan inside.history.items inside.next entry c.in-Answered.field-0 c.self.invariant.past counted,
       ),
     ) in
