@@ -2,8 +2,6 @@ pub mod Apart
 pub mod Dates
 pub mod Flights
 pub mod Heads
-pub mod Items
-pub mod Joined
 pub mod Lines
 pub mod Numbered
 pub mod PlainTexts

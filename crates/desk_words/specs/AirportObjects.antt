@@ -1,7 +1,6 @@
 -- An airport, as replies give it.
 use Rattle.std.specs.Prelude.{ℕ, List, [], ◌∷◌, ◌++◌, ◌+◌, codes, decimal, map}
-use Rattle.std.specs.Option.{option_map}
-use Rattle.serde_json.specs.Data.{Data, Members, string, array, object, member, no_members}
+use Rattle.serde_json.specs.Data.{Data, string, array, object, member, no_members}
 use Rattle.serde_json.specs.View.{items_of}
 use Rattle.apron_base.specs.declared.letter.Letter.{Letter}
 use Rattle.apron_base.specs.Letter.{letter_for, letter_rank}
@@ -12,11 +11,11 @@ use Rattle.apron_rules.specs.declared.parts.Frontage.{Frontage}
 use Rattle.apron_rules.specs.declared.parts.PairRow.{PairRow}
 use Rattle.apron_rules.specs.declared.parts.StandRow.{StandRow}
 use Rattle.apron_rules.specs.declared.parts.TypeRow.{TypeRow}
-use Rattle.desk_words.specs.PartObjects.{name_data, whole}
+use Rattle.desk_words.specs.PartObjects.{or_null, whole}
 
 -- a code letter, A to F
-abbrev pub letter_text : Letter → List ℕ
-letter_text letter = (65 + letter_rank letter) ∷ []
+abbrev pub letter_data : Letter → Data
+letter_data letter = string ((65 + letter_rank letter) ∷ [])
 
 -- YYYY-MM-DD
 abbrev pub date_text : Date → List ℕ
@@ -34,8 +33,8 @@ abbrev pub pair_data : PairRow → Data
 pair_data pair =
     object (member (codes "a") (string pair.a)
     (member (codes "b") (string pair.b)
-    (member (codes "la") (string (letter_text pair.la))
-    (member (codes "lb") (string (letter_text pair.lb)) no_members))))
+    (member (codes "la") (letter_data pair.la)
+    (member (codes "lb") (letter_data pair.lb) no_members))))
 
 -- {"buffer":M,"centre":X,"frontage":F,"half_of":STAND or null,"letter":LETTER,"name":STAND}
 abbrev pub stand_row_data : StandRow → Data
@@ -43,8 +42,8 @@ stand_row_data stand =
     object (member (codes "buffer") (whole stand.buffer)
     (member (codes "centre") (whole stand.centre)
     (member (codes "frontage") (string stand.frontage)
-    (member (codes "half_of") (name_data stand.half_of)
-    (member (codes "letter") (string (letter_text stand.letter))
+    (member (codes "half_of") (or_null string stand.half_of)
+    (member (codes "letter") (letter_data stand.letter)
     (member (codes "name") (string stand.name) no_members))))))
 
 -- {"fold":M,"least":M,"letter":LETTER,"name":TYPE,"parked":X,"span":X}, with the letter of the full
@@ -53,15 +52,15 @@ abbrev pub type_row_data : TypeRow → Data
 type_row_data kind =
     object (member (codes "fold") (whole kind.fold)
     (member (codes "least") (whole kind.least)
-    (member (codes "letter") (name_data (option_map letter_text (letter_for kind.span)))
+    (member (codes "letter") (or_null letter_data (letter_for kind.span))
     (member (codes "name") (string kind.name)
     (member (codes "parked") (whole kind.parked)
     (member (codes "span") (whole kind.span) no_members))))))
 
--- the members of an airport, in a plan of this version: each list in the order of its file
-abbrev pub airport_members : AirportParts → ℕ → Members
-airport_members airport version =
-    member (codes "days") (whole airport.days)
+-- the airport of a plan of this version: each list in the order of its file
+abbrev pub airport_data : AirportParts → ℕ → Data
+airport_data airport version =
+    object (member (codes "days") (whole airport.days)
     (member (codes "first_day") (string (date_text airport.first))
     (member (codes "frontages") (array (items_of (map frontage_data airport.frontages)))
     (member (codes "pairs") (array (items_of (map pair_data airport.pairs)))
@@ -70,8 +69,4 @@ airport_members airport version =
     (member (codes "taxi_in") (whole airport.taxi_in)
     (member (codes "tow") (whole airport.tow)
     (member (codes "types") (array (items_of (map type_row_data airport.types)))
-    (member (codes "version") (whole version) no_members)))))))))
-
--- the airport of a plan of this version
-abbrev pub airport_data : AirportParts → ℕ → Data
-airport_data airport version = object (airport_members airport version)
+    (member (codes "version") (whole version) no_members))))))))))

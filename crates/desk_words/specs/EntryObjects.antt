@@ -3,7 +3,7 @@ use Rattle.std.specs.Prelude.{ℕ, List, Option, codes}
 use Rattle.serde_json.specs.Data.{Data, string, object, member, no_members}
 use Rattle.desk_asks.specs.declared.asks.EntryKind.{EntryKind}
 use Rattle.desk_asks.specs.declared.asks.EntryKind.TheVariants.{Visit, Commit, Message, Report, Cancel}
-use Rattle.desk_words.specs.PartObjects.{name_data, whole}
+use Rattle.desk_words.specs.PartObjects.{or_null, whole}
 
 -- the word of a kind
 abbrev pub kind_word : EntryKind → List ℕ
@@ -18,7 +18,7 @@ kind_word Cancel = codes "cancel"
 abbrev pub entry_data : ℕ → ℕ → Option (List ℕ) → EntryKind → ℕ → Data
 entry_data entry call desk kind version =
     object (member (codes "call") (whole call)
-    (member (codes "desk") (name_data desk)
+    (member (codes "desk") (or_null string desk)
     (member (codes "entry") (whole entry)
     (member (codes "kind") (string (kind_word kind))
     (member (codes "version") (whole version) no_members)))))

@@ -1,5 +1,6 @@
 -- Parts of visits, stands and types, as replies give them.
-use Rattle.std.specs.Prelude.{ℕ, List, Option, None, Some, option_map, codes}
+use Rattle.std.specs.Prelude.{ℕ, Option, codes}
+use Rattle.std.specs.Option.{option_map_or}
 use Rattle.serde_json.specs.Data.{Data, null, number, unsigned, string, object, member, no_members}
 use Rattle.apron_base.specs.declared.numbers.PartId.{PartId}
 use Rattle.apron_base.specs.declared.numbers.StandNo.{StandNo}
@@ -17,15 +18,14 @@ part_data part =
     object (member (codes "part") (whole part.part)
     (member (codes "visit") (whole part.visit.0) no_members))
 
--- a name, or null if there is none
-abbrev pub name_data : Option (List ℕ) → Data
-name_data None = null
-name_data (Some name) = string name
+-- what is said of a value, or null if there is none
+abbrev pub or_null : {T : Type 0} → (T → Data) → Option T → Data
+or_null said value = option_map_or said value null
 
 -- the name of a stand
 abbrev pub stand_data : AirportParts → StandNo → Data
-stand_data airport stand = name_data (option_map (λ row. row.name) (stand_at airport stand))
+stand_data airport stand = or_null (λ row. string row.name) (stand_at airport stand)
 
 -- the name of a type
 abbrev pub type_data : AirportParts → TypeNo → Data
-type_data airport kind = name_data (option_map (λ row. row.name) (type_at airport kind))
+type_data airport kind = or_null (λ row. string row.name) (type_at airport kind)

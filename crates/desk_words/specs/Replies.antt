@@ -13,7 +13,7 @@ use Rattle.visit_book.specs.declared.edits.EditFault.TheVariants.{Overtaken, Mem
 use Rattle.desk_words.specs.declared.replies.Reply.{Reply}
 use Rattle.desk_words.specs.declared.replies.ReplyBody.{ReplyBody}
 use Rattle.desk_words.specs.declared.replies.ReplyBody.TheVariants.{Added, Committed, Message, Reported, Cancelled, Version, Visit, Plan, Unplaced, Chart, Entry, Airport, Day, NoVisit, NoEntry, Ahead, Full, OtherName, Edit, Denied}
-use Rattle.desk_words.specs.PartObjects.{part_data, whole}
+use Rattle.desk_words.specs.PartObjects.{or_null, part_data, whole}
 use Rattle.desk_words.specs.AirportObjects.{airport_data}
 use Rattle.desk_words.specs.EntryObjects.{entry_data}
 use Rattle.desk_words.specs.VisitObjects.{day_data, visit_data}
@@ -31,11 +31,6 @@ added_data entry visit =
     object
     (member (codes "version") (whole entry) (member (codes "visit") (whole visit.0) no_members))
 
--- a visit's number, or null
-abbrev pub visit_if : Option VisitNo → Data
-visit_if None = null
-visit_if (Some visit) = whole visit.0
-
 -- [PART, ..]
 abbrev pub parts_data : List PartId → Data
 parts_data parts = array (items_of (map part_data parts))
@@ -45,7 +40,7 @@ abbrev pub message_data : List PartId → Option VisitNo → ℕ → Data
 message_data bumped visit version =
     object (member (codes "bumped") (parts_data bumped)
     (member (codes "version") (whole version)
-    (member (codes "visit") (visit_if visit) no_members)))
+    (member (codes "visit") (or_null (λ number. whole number.0) visit) no_members)))
 
 -- {"bumped":[PART, ..],"version":N}
 abbrev pub reported_data : List PartId → ℕ → Data
@@ -61,7 +56,7 @@ reply_data airport version (Message bumped visit) = message_data bumped visit ve
 reply_data airport version (Reported bumped) = reported_data bumped version
 reply_data airport version Cancelled = version_data version
 reply_data airport version Version = version_data version
-reply_data airport version (Visit visit) = visit_data airport visit version
+reply_data airport version (Visit visit) = visit_data airport (Some version) visit
 reply_data airport version (Plan parts) = plan_data airport parts version
 reply_data airport version (Unplaced parts) = unplaced_data airport parts version
 reply_data airport version (Chart text) = null

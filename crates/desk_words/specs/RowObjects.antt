@@ -3,10 +3,10 @@ use Rattle.std.specs.Prelude.{ℕ, List, codes, map}
 use Rattle.serde_json.specs.Data.{Data, boolean, array, object, member, no_members}
 use Rattle.serde_json.specs.View.{items_of}
 use Rattle.apron_rules.specs.declared.parts.AirportParts.{AirportParts}
-use Rattle.visit_book.specs.Places.{is_actual}
+use Rattle.visit_book.specs.Places.{is_actual, stand_of}
 use Rattle.visit_book.specs.declared.visits.PartRow.{PartRow}
-use Rattle.desk_words.specs.PartObjects.{whole}
-use Rattle.desk_words.specs.VisitObjects.{place_bump_data, place_stand_data}
+use Rattle.desk_words.specs.PartObjects.{or_null, stand_data, whole}
+use Rattle.desk_words.specs.VisitObjects.{bump_data, bump_of}
 
 -- {"actual":BOOL,"from":M,"part":P,"stand":STAND,"to":M,"visit":N}
 abbrev pub placed_data : AirportParts → PartRow → Data
@@ -14,14 +14,14 @@ placed_data airport row =
     object (member (codes "actual") (boolean (is_actual row.part.place))
     (member (codes "from") (whole row.part.from)
     (member (codes "part") (whole row.id.part)
-    (member (codes "stand") (place_stand_data airport row.part.place)
+    (member (codes "stand") (or_null (stand_data airport) (stand_of row.part.place))
     (member (codes "to") (whole row.part.to)
     (member (codes "visit") (whole row.id.visit.0) no_members))))))
 
 -- {"bump":BUMP,"from":M,"part":P,"to":M,"visit":N}
 abbrev pub waiting_data : AirportParts → PartRow → Data
 waiting_data airport row =
-    object (member (codes "bump") (place_bump_data airport row.part.place)
+    object (member (codes "bump") (or_null (bump_data airport) (bump_of row.part.place))
     (member (codes "from") (whole row.part.from)
     (member (codes "part") (whole row.id.part)
     (member (codes "to") (whole row.part.to)

@@ -6,7 +6,8 @@ ghost use Rattle.serde_json.specs.Data.{string};
 ghost use Rattle.serde_json.specs.Written.{compact_text};
 ghost use Rattle.desk_words.specs.EntryObjects.{entry_data, kind_word};
 
-use crate::json_text::{push_member, push_name_if, push_text};
+use crate::json_text::Json;
+use crate::push_object;
 use apron_base::{Memory, Name};
 use desk_asks::EntryKind;
 
@@ -22,26 +23,25 @@ pub(crate) fn push_entry(
         (bytes.new.items
         ≡ bytes.old.items ++ compact_text (entry_data entry call desk.now kind version)) }
 {
-    push_member(bytes, b"{\"call\":", call)?;
-    bytes.extend_from_slice(b",\"desk\":")?;
-    push_name_if(bytes, desk)?;
-    push_member(bytes, b",\"entry\":", entry)?;
-    bytes.extend_from_slice(b",\"kind\":")?;
-    push_kind(bytes, kind)?;
-    push_member(bytes, b",\"version\":", version)?;
-    bytes.push(b'}')?;
-    Ok(())
+    push_object!(bytes, &(), {
+        "call": call,
+        "desk": *desk,
+        "entry": entry,
+        "kind": kind,
+        "version": version,
+    })
 }
 
-fn push_kind(bytes: &mut Vec<u8>, kind: EntryKind) -> Result<(), Memory>
-    ensures text { OnOk result
-        (bytes.new.items ≡ bytes.old.items ++ compact_text (string (kind_word kind))) }
-{
-    match kind {
-        EntryKind::Visit => push_text(bytes, b"visit"),
-        EntryKind::Commit => push_text(bytes, b"commit"),
-        EntryKind::Message => push_text(bytes, b"message"),
-        EntryKind::Report => push_text(bytes, b"report"),
-        EntryKind::Cancel => push_text(bytes, b"cancel"),
+impl<At> Json<At> for EntryKind {
+    ghost json = { λ _ kind. string (kind_word kind) };
+
+    fn push(&self, bytes: &mut Vec<u8>, at: &At) -> Result<(), Memory> {
+        match self {
+            EntryKind::Visit => "visit".push(bytes, at),
+            EntryKind::Commit => "commit".push(bytes, at),
+            EntryKind::Message => "message".push(bytes, at),
+            EntryKind::Report => "report".push(bytes, at),
+            EntryKind::Cancel => "cancel".push(bytes, at),
+        }
     }
 }

@@ -1,60 +1,60 @@
-// Parts of visits, stands, types and rules, as replies give them.
+// Numbers of visits, parts of visits, stands, types and rules, as replies give them.
 #![tactic(auto, unfolding(serde_json::proofs::OnLiterals::serde_json_on_literals))]
 
-ghost use Rattle.std.specs.Prelude.{◌≡◌, ◌++◌, true, OnOk};
 ghost use Rattle.serde_json.specs.Data.{string};
-ghost use Rattle.serde_json.specs.Written.{compact_text};
-ghost use Rattle.desk_words.specs.JsonText.{is_plain};
 ghost use Rattle.apron_rules.specs.RuleWords.{rule_word};
-ghost use Rattle.desk_words.specs.PartObjects.{part_data, stand_data, type_data};
+ghost use Rattle.desk_words.specs.PartObjects.{part_data, stand_data, type_data, whole};
 
-use crate::json_text::{push_member, push_name, push_null, push_text};
-use apron_base::{Memory, PartId, StandNo, TypeNo};
+use crate::json_text::{Json, push_null};
+use crate::push_object;
+use apron_base::{Memory, PartId, StandNo, TypeNo, VisitNo};
 use apron_rules::{AirportParts, Rule, rule_word};
 
-/// Writes a part at the end, as `{"part":P,"visit":N}`. At `Err` memory has run out.
-pub fn push_part(bytes: &mut Vec<u8>, part: PartId) -> Result<(), Memory>
-    ensures text { OnOk result
-        (bytes.new.items ≡ bytes.old.items ++ compact_text (part_data part)) }
-{
-    push_member(bytes, b"{\"part\":", part.part)?;
-    push_member(bytes, b",\"visit\":", part.visit.0)?;
-    bytes.push(b'}')?;
-    Ok(())
-}
+impl<At> Json<At> for VisitNo {
+    ghost json = { λ _ visit. whole visit.0 };
 
-/// Writes the name of a stand at the end, or null if the airport has none of this number. At `Err`
-/// memory has run out.
-pub fn push_stand(bytes: &mut Vec<u8>, airport: &AirportParts, stand: StandNo) -> Result<(), Memory>
-    ensures text { OnOk result
-        (bytes.new.items ≡ bytes.old.items ++ compact_text (stand_data airport.now stand)) }
-{
-    match airport.stands.as_slice().get(stand.0 as usize) {
-        Some(row) => push_name(bytes, &row.name),
-        None => push_null(bytes),
+    fn push(&self, bytes: &mut Vec<u8>, at: &At) -> Result<(), Memory> {
+        self.0.push(bytes, at)
     }
 }
 
-// The name of a type, or null if the airport has none of this number.
-pub(crate) fn push_type(
-    bytes: &mut Vec<u8>,
-    airport: &AirportParts,
-    kind: TypeNo,
-) -> Result<(), Memory>
-    ensures text { OnOk result
-        (bytes.new.items ≡ bytes.old.items ++ compact_text (type_data airport.now kind)) }
-{
-    match airport.types.as_slice().get(kind.0 as usize) {
-        Some(row) => push_name(bytes, &row.name),
-        None => push_null(bytes),
+impl<At> Json<At> for PartId {
+    ghost json = { λ _ part. part_data part };
+
+    fn push(&self, bytes: &mut Vec<u8>, at: &At) -> Result<(), Memory> {
+        push_object!(bytes, at, { "part": self.part, "visit": self.visit })
     }
 }
 
-/// Writes the word of a rule at the end. At `Err` memory has run out.
-#[tactic(auto, using(crate::proofs::PlainTexts::rule_plain))]
-pub fn push_rule(bytes: &mut Vec<u8>, rule: Rule) -> Result<(), Memory>
-    ensures text { OnOk result
-        (bytes.new.items ≡ bytes.old.items ++ compact_text (string (rule_word rule))) }
-{
-    push_text(bytes, rule_word(rule).as_bytes())
+/// The name of the stand, or null if the airport has none of this number.
+impl Json<AirportParts> for StandNo {
+    ghost json = { λ airport stand. stand_data airport stand };
+
+    fn push(&self, bytes: &mut Vec<u8>, airport: &AirportParts) -> Result<(), Memory> {
+        match airport.stands.as_slice().get(self.0 as usize) {
+            Some(row) => row.name.push(bytes, airport),
+            None => push_null(bytes),
+        }
+    }
+}
+
+/// The name of the type, or null if the airport has none of this number.
+impl Json<AirportParts> for TypeNo {
+    ghost json = { λ airport kind. type_data airport kind };
+
+    fn push(&self, bytes: &mut Vec<u8>, airport: &AirportParts) -> Result<(), Memory> {
+        match airport.types.as_slice().get(self.0 as usize) {
+            Some(row) => row.name.push(bytes, airport),
+            None => push_null(bytes),
+        }
+    }
+}
+
+impl<At> Json<At> for Rule {
+    ghost json = { λ _ rule. string (rule_word rule) };
+
+    #[tactic(auto, using(crate::proofs::PlainTexts::rule_plain))]
+    fn push(&self, bytes: &mut Vec<u8>, at: &At) -> Result<(), Memory> {
+        rule_word(*self).push(bytes, at)
+    }
 }

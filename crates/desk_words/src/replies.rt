@@ -9,7 +9,7 @@ use crate::airport_objects::push_airport;
 use crate::bumped_objects::{push_message, push_reported};
 use crate::entry_objects::push_entry;
 use crate::fault_objects::{denial_word, push_fault, push_other_name, push_refused};
-use crate::json_text::push_member;
+use crate::push_object;
 use crate::row_objects::{push_plan, push_unplaced};
 use crate::visit_objects::{push_day, push_visit};
 use apron_base::{Listed, Memory, Name, PartId, VisitNo};
@@ -280,17 +280,12 @@ fn push_body(
     match told {
         ReplyBody::Added { entry, visit } => push_added(body, *entry, *visit),
         ReplyBody::Committed { entry } => push_version(body, *entry),
-        ReplyBody::Message { bumped, visit } => push_message(
-            body,
-            bumped.as_slice(),
-            *visit,
-            version,
-        ),
-        ReplyBody::Reported { bumped } => push_reported(body, bumped.as_slice(), version),
+        ReplyBody::Message { bumped, visit } => push_message(body, bumped, *visit, version),
+        ReplyBody::Reported { bumped } => push_reported(body, bumped, version),
         ReplyBody::Cancelled | ReplyBody::Version => push_version(body, version),
         ReplyBody::Visit(visit) => push_visit(body, airport, visit, Some(version)),
-        ReplyBody::Plan { parts } => push_plan(body, airport, parts.as_slice(), version),
-        ReplyBody::Unplaced { parts } => push_unplaced(body, airport, parts.as_slice(), version),
+        ReplyBody::Plan { parts } => push_plan(body, airport, parts, version),
+        ReplyBody::Unplaced { parts } => push_unplaced(body, airport, parts, version),
         ReplyBody::Chart { text } => {
             body.extend_from_slice(text.as_slice())?;
             Ok(())
@@ -302,11 +297,11 @@ fn push_body(
             kind,
         } => push_entry(body, *entry, *call, desk, *kind, version),
         ReplyBody::Airport => push_airport(body, airport, version),
-        ReplyBody::Day { visits } => push_day(body, airport, visits.as_slice(), version),
-        ReplyBody::NoVisit => push_refused(body, b"visit", version),
-        ReplyBody::NoEntry => push_refused(body, b"entry", version),
-        ReplyBody::Ahead => push_refused(body, b"ahead", version),
-        ReplyBody::Full => push_refused(body, b"full", version),
+        ReplyBody::Day { visits } => push_day(body, airport, visits, version),
+        ReplyBody::NoVisit => push_refused(body, "visit", version),
+        ReplyBody::NoEntry => push_refused(body, "entry", version),
+        ReplyBody::Ahead => push_refused(body, "ahead", version),
+        ReplyBody::Full => push_refused(body, "full", version),
         ReplyBody::OtherName { visit } => push_other_name(body, *visit, version),
         ReplyBody::Edit(fault) => push_fault(body, *fault, version),
         ReplyBody::Denied(why) => push_refused(body, denial_word(*why), version),
@@ -318,10 +313,7 @@ fn push_added(body: &mut Vec<u8>, entry: u32, visit: VisitNo) -> Result<(), Memo
     ensures text { OnOk result
         (body.new.items ≡ body.old.items ++ compact_text (added_data entry visit)) }
 {
-    push_member(body, b"{\"version\":", entry)?;
-    push_member(body, b",\"visit\":", visit.0)?;
-    body.push(b'}')?;
-    Ok(())
+    push_object!(body, &(), { "version": entry, "visit": visit })
 }
 
 #[tactic(auto, unfolding(serde_json::proofs::OnLiterals::serde_json_on_literals))]
@@ -329,7 +321,5 @@ fn push_version(body: &mut Vec<u8>, version: u32) -> Result<(), Memory>
     ensures text { OnOk result
         (body.new.items ≡ body.old.items ++ compact_text (version_data version)) }
 {
-    push_member(body, b"{\"version\":", version)?;
-    body.push(b'}')?;
-    Ok(())
+    push_object!(body, &(), { "version": version })
 }

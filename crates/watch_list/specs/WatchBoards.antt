@@ -7,7 +7,6 @@ use Rattle.apron_base.specs.declared.outside.Acted.TheVariants.{Reply, Memory}
 use Rattle.desk_asks.specs.declared.asks.Entry.{Entry}
 use Rattle.desk_asks.specs.declared.asks.What.TheVariants.{Change}
 use Rattle.history_core.specs.Answer.{ActsLegally}
-use Rattle.history_core.specs.AtRisk.{read_entry_at_risk}
 use Rattle.history_core.specs.Board.{BoardHeld}
 use Rattle.history_core.specs.History.{IsAskOf, IsLegal, replay}
 use Rattle.watch_list.specs.declared.feed_words.FeedOutcome.{FeedOutcome}
@@ -38,7 +37,7 @@ abbrev pub watch_state : {K R : Type 0} → (K → KeeperState) → WatchHeld K 
 watch_state tells held = record {
   fixed = watch_fixed held;
   history = held.board.history;
-  at_risk = read_entry_at_risk held.board.airport (tells held.board.keeper);
+  at_risk = held.board.at_risk;
   next = held.next;
   faults = (tells held.board.keeper).faults;
 }

@@ -1,7 +1,5 @@
 // The replies to feeds, byte for byte.
-ghost use Rattle.std.specs.Prelude.{◌≡◌, ◌++◌, map, IfOk, OnOk};
-ghost use Rattle.serde_json.specs.Data.{array};
-ghost use Rattle.serde_json.specs.View.{items_of};
+ghost use Rattle.std.specs.Prelude.{◌≡◌, ◌++◌, IfOk, OnOk};
 ghost use Rattle.serde_json.specs.Written.{compact_text};
 ghost use Rattle.watch_list.specs.FeedReplies.{fed_code, fed_data, fed_text, note_data, notes_data};
 
@@ -9,8 +7,8 @@ use crate::note::Note;
 use apron_base::{Listed, Memory};
 use apron_rules::{Airport, AirportParts};
 use desk_words::fault_objects::push_refused;
-use desk_words::json_text::{push_comma_if, push_member};
-use desk_words::part_objects::{push_part, push_rule, push_stand};
+use desk_words::json_text::Json;
+use desk_words::push_object;
 use desk_words::replies::{JSON, text_of};
 use http::StatusCode;
 use std::alloc::Global;
@@ -89,9 +87,9 @@ fn push_fed(
         (bytes.new.items ≡ bytes.old.items ++ compact_text (fed_data airport.now version fed.now)) }
 {
     match fed {
-        FeedOutcome::Ahead => push_refused(bytes, b"ahead", version),
-        FeedOutcome::NoWatch => push_refused(bytes, b"watch", version),
-        FeedOutcome::Notes { notes } => push_notes(bytes, airport, notes.as_slice(), version),
+        FeedOutcome::Ahead => push_refused(bytes, "ahead", version),
+        FeedOutcome::NoWatch => push_refused(bytes, "watch", version),
+        FeedOutcome::Notes { notes } => push_notes(bytes, airport, notes, version),
     }
 }
 
@@ -99,54 +97,29 @@ fn push_fed(
 fn push_notes(
     bytes: &mut Vec<u8>,
     airport: &AirportParts,
-    notes: &[Note],
+    notes: &Listed<Note>,
     version: u32,
 ) -> Result<(), Memory>
     ensures text { OnOk result
         (bytes.new.items
         ≡ bytes.old.items ++ compact_text (notes_data airport.now notes.now version)) }
 {
-    bytes.extend_from_slice(b"{\"bumps\":")?;
-    push_note_items(bytes, airport, notes)?;
-    push_member(bytes, b",\"version\":", version)?;
-    bytes.push(b'}')?;
-    Ok(())
+    push_object!(bytes, airport, { "bumps": *notes, "version": version })
 }
 
-fn push_note_items(
-    bytes: &mut Vec<u8>,
-    airport: &AirportParts,
-    notes: &[Note],
-) -> Result<(), Memory>
-    ensures text { OnOk result
-        (bytes.new.items
-        ≡ bytes.old.items
-        ++ compact_text (array (items_of (map (note_data airport.now) notes.now)))) }
-{
-    bytes.push(b'[')?;
-    for (i, note) in notes.iter().enumerate() {
-        push_comma_if(bytes, i > 0)?;
-        push_note(bytes, airport, note)?;
+#[tactic(auto, unfolding(serde_json::proofs::OnLiterals::serde_json_on_literals))]
+impl Json<AirportParts> for Note {
+    ghost json = { λ airport note. note_data airport note };
+
+    fn push(&self, bytes: &mut Vec<u8>, airport: &AirportParts) -> Result<(), Memory> {
+        push_object!(bytes, airport, {
+            "blocker": self.blocker,
+            "class": self.class,
+            "entry": self.entry,
+            "minute": self.minute,
+            "part": self.part,
+            "rule": self.rule,
+            "stand": self.stand,
+        })
     }
-    bytes.push(b']')?;
-    Ok(())
-}
-
-fn push_note(bytes: &mut Vec<u8>, airport: &AirportParts, note: &Note) -> Result<(), Memory>
-    ensures text { OnOk result
-        (bytes.new.items ≡ bytes.old.items ++ compact_text (note_data airport.now note.now)) }
-{
-    bytes.extend_from_slice(b"{\"blocker\":")?;
-    push_part(bytes, note.blocker)?;
-    push_member(bytes, b",\"class\":", note.class)?;
-    push_member(bytes, b",\"entry\":", note.entry)?;
-    push_member(bytes, b",\"minute\":", note.minute)?;
-    bytes.extend_from_slice(b",\"part\":")?;
-    push_part(bytes, note.part)?;
-    bytes.extend_from_slice(b",\"rule\":")?;
-    push_rule(bytes, note.rule)?;
-    bytes.extend_from_slice(b",\"stand\":")?;
-    push_stand(bytes, airport, note.stand)?;
-    bytes.push(b'}')?;
-    Ok(())
 }

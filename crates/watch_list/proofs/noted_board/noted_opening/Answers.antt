@@ -30,7 +30,7 @@ loop-bytes-preserved c =
       airport = c.read.ensures.airport ∙ so_far.airport;
       texts = front
           ∙ (ap (λ (texts : List (List ℕ)). texts ++ bytes ∷ []) so_far.texts
-          ∙ (ap (λ (text : List ℕ). entry_texts opening.history ++ text ∷ []) read.text
+          ∙ (ap (λ (text : List ℕ). entry_texts opening.history ++ text ∷ []) read.is.1
           ∙ (sym (texts_push opening.history read.entry) ∙ ap entry_texts (sym read.last))));
       notes = notes_read opening c.read.new.self bytes c.loop-bytes.notes.items c.push_last.new.notes.items c.read.ensures.airport read
           so_far.notes c.in_ok-push_last.ensures.notes;
