@@ -1,15 +1,14 @@
 // The visits as they will be, by what blocks their parts.
 ghost use Rattle.std.specs.Prelude.{◌≡◌, ◌≤◌, ◌∷◌, ◌||◌, ◌==◌, [], ℕ, Bool, IfOk, OnOk, filter, fold, length, map};
-ghost use Rattle.visit_book.specs.Numbers.{IsNumbered};
 ghost use Rattle.bump_core.specs.Lists.{after_by, changes_by, is_of, part_by, touched_visits, visit_by};
 ghost use Rattle.bump_core.specs.Settle.{best, place_after, with_better};
 
 use crate::lists::{blocks_before, is_of};
 use crate::ranks::Conflict;
 use apron_base::{Memory, PartId, StandNo, VisitNo};
-use plan_core::add_visit_once;
+use plan_core::{Plan, add_visit_once};
 use std::alloc::Global;
-use visit_book::{Bump, Part, Place, Visit, visit_at};
+use visit_book::{Bump, Part, Place, Visit};
 
 /// The visit by what blocks its parts.
 pub(crate) fn visit_by(entry: u32, blockings: &[Conflict], visit: &Visit) -> Visit
@@ -90,13 +89,12 @@ pub(crate) fn changes_by(
     entry: u32,
     new: &Visit,
     blockings: &[Conflict],
-    visits: &[Visit],
+    plan: &Plan,
 ) -> Result<Vec<Visit>, Memory>
-    requires numbered { IsNumbered visits.now }
     ensures ok { IfOk result
-        (λ changes. changes.items ≡ changes_by entry new.now blockings.now visits.now) }
+        (λ changes. changes.items ≡ changes_by entry new.now blockings.now plan.now.plan.visits) }
 {
-    let mut changes = touched_visits(alloc, blockings, new.number, visits)?;
+    let mut changes = touched_visits(alloc, blockings, new.number, plan)?;
     put_after(entry, new, blockings, changes.as_mut_slice());
     Ok(changes)
 }
@@ -106,30 +104,29 @@ fn touched_visits(
     alloc: Global,
     blockings: &[Conflict],
     changed: VisitNo,
-    visits: &[Visit],
+    plan: &Plan,
 ) -> Result<Vec<Visit>, Memory>
-    requires numbered { IsNumbered visits.now }
     ensures ok { IfOk result
-        (λ some. some.items ≡ touched_visits blockings.now changed visits.now) }
+        (λ some. some.items ≡ touched_visits blockings.now changed plan.now.plan.visits) }
 {
     let mut some = Vec::new(alloc);
-    add_numbered(&mut some, visits, changed)?;
+    add_numbered(&mut some, plan, changed)?;
     for blocking in blockings {
-        add_numbered(&mut some, visits, blocking.blocked.slot.part.visit)?;
+        add_numbered(&mut some, plan, blocking.blocked.slot.part.visit)?;
     }
     Ok(some)
 }
 
 // Adds the visit of this number in its place, if it exists and isn't there yet.
-fn add_numbered(some: &mut Vec<Visit>, visits: &[Visit], number: VisitNo) -> Result<(), Memory>
-    requires numbered { IsNumbered visits.now }
-    ensures ok { OnOk result
+fn add_numbered(some: &mut Vec<Visit>, plan: &Plan, number: VisitNo) -> Result<(), Memory>
+    ensures ok { let visits = plan.now.plan.visits in OnOk result
         ((test : ℕ → Bool)
-        → some.old.items ≡ filter (λ visit. test visit.number.0) visits.now
+        → some.old.items ≡ filter (λ visit. test visit.number.0) visits
         → some.new.items
-        ≡ filter (λ visit. test visit.number.0 || number.0 == visit.number.0) visits.now) }
+        ≡ filter (λ visit. test visit.number.0 || number.0 == visit.number.0) visits) }
 {
-    if let Some(visit) = visit_at(visits, number) {
+    let _known = plan.visits();
+    if let Some(visit) = plan.visit(number) {
         add_visit_once(some, *visit)?;
     }
     Ok(())

@@ -1,6 +1,5 @@
 // The lists from which settling near a changed visit is decided.
-ghost use Rattle.std.specs.Prelude.{◌≡◌, ◌++◌, ◌∷◌, [], All, IfOk, OnOk, filter, filter_map, map, not, option_to_list};
-ghost use Rattle.visit_book.specs.Numbers.{IsNumbered};
+ghost use Rattle.std.specs.Prelude.{◌≡◌, ◌++◌, ◌∷◌, [], IfOk, OnOk, filter, filter_map, map, not, option_to_list};
 ghost use Rattle.visit_book.specs.WellFormed.{IsWellFormed};
 ghost use Rattle.bump_core.specs.Lists.{against_others, against_own, by_other, by_own, is_blocked, is_of, is_same_part, is_taken, kept_clash_at, part_called, part_on, takes};
 ghost use Rattle.bump_core.specs.Ranks.{blocks_before, may_block, parts_on, ranked_part};
@@ -8,8 +7,9 @@ ghost use Rattle.bump_core.specs.Ranks.{blocks_before, may_block, parts_on, rank
 use crate::ranks::{Conflict, KeptClash, Ranked};
 use apron_base::{Listed, Memory, PartId, Slot};
 use apron_rules::{Airport, Clash};
+use plan_core::Plan;
 use std::alloc::Global;
-use visit_book::{Visit, slot_of, visit_at};
+use visit_book::{Visit, slot_of};
 
 /// Whether a part ranks before another: an actual one before a planned one, then by class, by the
 /// scheduled minute on block, by visit and by part.
@@ -95,27 +95,26 @@ fn part_on(airport: &Airport, visit: &Visit, number: u8) -> Option<Ranked>
 }
 
 // The part of these numbers, if it is on a stand.
-fn part_called(airport: &Airport, visits: &[Visit], id: PartId) -> Option<Ranked>
-    requires numbered { IsNumbered visits.now }
-    requires each { All (IsWellFormed airport.now) visits.now }
-    ensures is { result ≡ part_called airport.now visits.now id }
+fn part_called(airport: &Airport, plan: &Plan, id: PartId) -> Option<Ranked>
+    requires airport { airport.now ≡ plan.now.plan.airport }
+    ensures is { result ≡ part_called airport.now plan.now.plan.visits id }
 {
-    let visit = visit_at(visits, id.visit)?;
+    let _known = plan.visits();
+    let visit = plan.visit(id.visit)?;
     part_on(airport, visit, id.part)
 }
 
 /// The clash of an own part with another, from the clash of their slots.
 pub(crate) fn kept_clash_at(
     airport: &Airport,
-    visits: &[Visit],
+    plan: &Plan,
     own: &Ranked,
     clash: &Clash,
 ) -> Option<KeptClash>
-    requires numbered { IsNumbered visits.now }
-    requires each { All (IsWellFormed airport.now) visits.now }
-    ensures is { result ≡ kept_clash_at airport.now visits.now own.now clash.now }
+    requires airport { airport.now ≡ plan.now.plan.airport }
+    ensures is { result ≡ kept_clash_at airport.now plan.now.plan.visits own.now clash.now }
 {
-    match part_called(airport, visits, clash.b) {
+    match part_called(airport, plan, clash.b) {
         Some(other) => Some(KeptClash {
             own: *own,
             other,

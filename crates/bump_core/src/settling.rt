@@ -1,13 +1,9 @@
 // Settling near the changed visit.
-ghost use Rattle.std.specs.Prelude.{◌≡◌, ◌≤◌, ◌<◌, ◌+◌, ◌++◌, [], All, IfOk, IfSome, OnOk, Some, filter_map, option_map, option_to_list, sum_by};
+ghost use Rattle.std.specs.Prelude.{◌≡◌, ◌≤◌, ◌<◌, ◌+◌, ◌++◌, All, IfOk, IfSome, OnOk, Some, filter_map, option_map, option_to_list, sum_by};
 ghost use Rattle.apron_rules.specs.Clash.{IsSlotOf};
-ghost use Rattle.clash_check.specs.Clear.{IsClear};
-ghost use Rattle.clash_check.specs.Indexed.{all_slots};
-ghost use Rattle.clash_check.specs.Meetings.{by_part};
 ghost use Rattle.clash_check.specs.Steps.{steps_near};
 ghost use Rattle.plan_core.specs.PlanState.{IsInstallable, plan_after_change, version_limit};
-ghost use Rattle.visit_book.specs.Numbers.{IsNumbered};
-ghost use Rattle.visit_book.specs.Slots.{slots_of, slots_of_visit};
+ghost use Rattle.visit_book.specs.Slots.{slots_of_visit};
 ghost use Rattle.visit_book.specs.WellFormed.{IsWellFormed};
 ghost use Rattle.bump_core.specs.Bumped.{bumped_by};
 ghost use Rattle.bump_core.specs.Kept.{AreChanges};
@@ -22,7 +18,6 @@ use apron_base::{Listed, Memory, Steps};
 use apron_rules::{Airport, Clash};
 use clash_check::clashes_of;
 use plan_core::{Change, Plan};
-use stand_index::StandIndex;
 use std::alloc::Global;
 use std::sync::ledger::Ledger;
 use visit_book::Visit;
@@ -75,47 +70,35 @@ fn changes_of<L: Ledger>(
         + settle_steps plan.now.plan.airport plan.now.index
         (option_map (λ visit. visit.now) changed.entry) }
 {
-    let visits = plan.visits();
+    let _known = plan.visits();
     match changed {
-        Some(visit) => changes_near(
-            alloc,
-            airport,
-            visits,
-            plan.index(),
-            visit,
-            plan.version() + 1,
-            steps,
-        ),
+        Some(visit) => changes_near(alloc, airport, plan, visit, steps),
         None => Ok(Vec::new(alloc)),
     }
 }
 
-// The same if this visit is changed, by the index of the slots of the visits.
+// The same if this visit is changed.
 fn changes_near<L: Ledger>(
     alloc: Global,
     airport: &Airport,
-    visits: &[Visit],
-    index: &StandIndex,
+    plan: &Plan,
     changed: &Visit,
-    entry: u32,
     steps: &mut Steps<L>,
 ) -> Result<Vec<Visit>, Memory>
-    requires each { All (IsWellFormed airport.now) visits.now }
-    requires numbered { IsNumbered visits.now }
-    requires clear { IsClear airport.now index.now [] }
-    requires ordered { by_part (all_slots index.now) ≡ slots_of airport.now visits.now }
+    requires airport { airport.now ≡ plan.now.plan.airport }
     requires valid { IsWellFormed airport.now changed.now }
-    ensures ok { IfOk result
-        (λ changes. changes.items ≡ changes_near airport.now entry visits.now changed.now) }
+    ensures ok { IfOk result (λ changes. changes.items
+        ≡ changes_near airport.now (plan.now.plan.version + 1) plan.now.plan.visits changed.now) }
     ensures steps { steps.new
         ≤ steps.old
-        + sum_by (steps_near airport.now index.now) (slots_of_visit airport.now changed.now) }
+        + sum_by (steps_near airport.now plan.now.index) (slots_of_visit airport.now changed.now) }
 {
-    let mets = kept_clashes(alloc, airport, visits, index, changed, steps)?;
+    let mets = kept_clashes(alloc, airport, plan, changed, steps)?;
     let own = against_own(alloc, mets.as_slice())?;
     let others = against_others(alloc, mets.as_slice(), own.as_slice())?;
+    let entry = plan.version() + 1;
     let new = visit_by(entry, own.as_slice(), changed);
-    changes_by(alloc, entry, &new, others.as_slice(), visits)
+    changes_by(alloc, entry, &new, others.as_slice(), plan)
 }
 
 // The clashes of the parts of the changed visit: `clashes_of` is called once for each part that is
@@ -123,25 +106,22 @@ fn changes_near<L: Ledger>(
 fn kept_clashes<L: Ledger>(
     alloc: Global,
     airport: &Airport,
-    visits: &[Visit],
-    index: &StandIndex,
+    plan: &Plan,
     changed: &Visit,
     steps: &mut Steps<L>,
 ) -> Result<Listed<KeptClash>, Memory>
-    requires each { All (IsWellFormed airport.now) visits.now }
-    requires numbered { IsNumbered visits.now }
-    requires clear { IsClear airport.now index.now [] }
-    requires ordered { by_part (all_slots index.now) ≡ slots_of airport.now visits.now }
+    requires airport { airport.now ≡ plan.now.plan.airport }
     requires valid { IsWellFormed airport.now changed.now }
-    ensures ok { IfOk result (λ mets. mets ≡ kept_clashes airport.now visits.now changed.now) }
+    ensures ok { IfOk result
+        (λ mets. mets ≡ kept_clashes airport.now plan.now.plan.visits changed.now) }
     ensures steps { steps.new
         ≤ steps.old
-        + sum_by (steps_near airport.now index.now) (slots_of_visit airport.now changed.now) }
+        + sum_by (steps_near airport.now plan.now.index) (slots_of_visit airport.now changed.now) }
 {
     let owns = parts_on(alloc, airport, changed)?;
     let mut mets = Listed::new(alloc);
     for own in owns.as_slice() {
-        push_kept_clashes_of(alloc, airport, visits, index, &mut mets, own, steps)?;
+        push_kept_clashes_of(alloc, airport, plan, &mut mets, own, steps)?;
     }
     Ok(mets)
 }
@@ -149,42 +129,39 @@ fn kept_clashes<L: Ledger>(
 fn push_kept_clashes_of<L: Ledger>(
     alloc: Global,
     airport: &Airport,
-    visits: &[Visit],
-    index: &StandIndex,
+    plan: &Plan,
     mets: &mut Listed<KeptClash>,
     own: &Ranked,
     steps: &mut Steps<L>,
 ) -> Result<(), Memory>
-    requires each { All (IsWellFormed airport.now) visits.now }
-    requires numbered { IsNumbered visits.now }
-    requires clear { IsClear airport.now index.now [] }
-    requires ordered { by_part (all_slots index.now) ≡ slots_of airport.now visits.now }
+    requires airport { airport.now ≡ plan.now.plan.airport }
     requires own { IsSlotOf airport.now own.now.slot }
     ensures ok { OnOk result
         (mets.new
         ≡ mets.old
-        ++ kept_clashes_of_part airport.now (all_parts_on airport.now visits.now) own.now) }
-    ensures steps { steps.new ≤ steps.old + steps_near airport.now index.now own.now.slot }
+        ++ kept_clashes_of_part airport.now (all_parts_on airport.now plan.now.plan.visits) own.now) }
+    ensures steps { steps.new ≤ steps.old + steps_near airport.now plan.now.index own.now.slot }
 {
-    let clashes = clashes_of(alloc, airport, index, &own.slot, steps)?;
-    push_kept_clashes(airport, visits, mets, own, clashes.as_slice())
+    let _known = plan.visits();
+    let clashes = clashes_of(alloc, airport, plan.index(), &own.slot, steps)?;
+    push_kept_clashes(airport, plan, mets, own, clashes.as_slice())
 }
 
 fn push_kept_clashes(
     airport: &Airport,
-    visits: &[Visit],
+    plan: &Plan,
     mets: &mut Listed<KeptClash>,
     own: &Ranked,
     clashes: &[Clash],
 ) -> Result<(), Memory>
-    requires each { All (IsWellFormed airport.now) visits.now }
-    requires numbered { IsNumbered visits.now }
+    requires airport { airport.now ≡ plan.now.plan.airport }
     ensures ok { OnOk result
         (mets.new
-        ≡ mets.old ++ filter_map (kept_clash_at airport.now visits.now own.now) clashes.now) }
+        ≡ mets.old
+        ++ filter_map (kept_clash_at airport.now plan.now.plan.visits own.now) clashes.now) }
 {
     for clash in clashes {
-        push_kept_clash(mets, kept_clash_at(airport, visits, own, clash))?;
+        push_kept_clash(mets, kept_clash_at(airport, plan, own, clash))?;
     }
     Ok(())
 }

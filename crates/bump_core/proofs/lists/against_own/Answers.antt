@@ -1,4 +1,4 @@
-use Rattle.std.proofs.Common.{◌∙◌, ap, ◌++◌, List}
+use Rattle.std.proofs.Common.{◌∙◌, ap, ◌++◌}
 use Rattle.std.specs.Prelude.{not}
 use Rattle.bump_core.specs.Lists.{by_other, is_taken}
 use Rattle.bump_core.proofs.Grow.{sifted_more}
