@@ -1,5 +1,5 @@
 -- A session that nothing hinders answers each request of its input.
-use Rattle.std.proofs.Common.{◌≡◌, ◌∙◌, ◌<◌, ◌≤◌, ◌+◌, ℕ, true, false, List, [], ◌∷◌, ◌++◌, length, length-append, take, append-nil, Option, None, Some, refl, sym, ap, ap₂, subst, arith}
+use Rattle.std.proofs.Common.{◌≡◌, ◌∙◌, ◌<◌, ◌≤◌, ◌+◌, ℕ, true, false, List, [], ◌∷◌, ◌++◌, length, length-append, take, append-nil, Option, None, Some, Result, Ok, refl, sym, ap, ap₂, subst, arith}
 use Rattle.std.specs.Prelude.{All}
 use Rattle.std.specs.Io.KnownBytes.{Consumes}
 use Rattle.std.proofs.lemmas.List.{take_all, take_at}
@@ -17,7 +17,7 @@ use Rattle.http_framing.proofs.OneReading.{HasRequest-unique, one_reading, reque
 use Rattle.http_framing.proofs.StreamLaws.{malformed_more, requests_closed, requests_of, splits_more, splits_push}
 use Rattle.desk_asks.specs.declared.asks.Ask.{Ask}
 use Rattle.history_core.specs.Answer.{Given}
-use Rattle.desk_http.specs.Answers.{Answered, Answers, Sent, sends, sent_text}
+use Rattle.desk_http.specs.Answers.{Answers, Sent, sent_text}
 use Rattle.desk_http.specs.Complete.{AnswersEachBy, ComesToEnd, IsCompleteBy, IsUnhindered, SessionsAreComplete}
 use Rattle.desk_http.specs.Ports.{PortState}
 use Rattle.desk_http.specs.Runs.{Runs}
@@ -62,9 +62,9 @@ each_is_listed input requests ending reads few listed other lists =
     let count : length requests ≡ length listed = ap length same.0 in
     same.0 ∙ sym (take_all most_requests listed (omega arith))
 
-module _ (Comes : PortState → Request → Answered → PortState → Type 0) (airport : AirportParts) (before after : SessionState) (input taken more : List ℕ)
+module _ (Comes : PortState → Request → Result Sent Outcome → PortState → Type 0) (airport : AirportParts) (before after : SessionState) (input taken more : List ℕ)
     (front : input ≡ taken ++ more) (done : Progress) (served : PortState) (splits : Splits taken done.requests done.rest) (stay : All IsOpen done.requests)
-    (runs : Runs (λ old request sent new. Comes old request (sends sent) new) before.port done.requests done.sents served) where
+    (runs : Runs (λ old request sent new. Comes old request (Ok sent) new) before.port done.requests done.sents served) where
   -- the requests that left the session open, in the whole input
   open_splits : Splits input done.requests (done.rest ++ more)
   open_splits = subst (λ i. Splits i done.requests (done.rest ++ more)) (sym front) (splits_more taken more done.rest done.requests splits)
@@ -83,7 +83,7 @@ module _ (Comes : PortState → Request → Answered → PortState → Type 0) (
     sents = done.sents;
     last = last;
     each = each;
-    runs = subst (λ (p : PortState). Runs (λ old request sent new. Comes old request (sends sent) new) before.port done.requests done.sents p) (sym same) runs;
+    runs = subst (λ (p : PortState). Runs (λ old request sent new. Comes old request (Ok sent) new) before.port done.requests done.sents p) (sym same) runs;
     ends = ends;
     wrote = wrote;
   }
@@ -105,7 +105,7 @@ module _ (Comes : PortState → Request → Answered → PortState → Type 0) (
       sym (ap (take most_requests) behind.are ∙ take_at done.requests behind.more most_requests most)
 
   -- it ended with a request that closes it
-  closes_with : (request : Request) (sent : Sent) → is_closing request.head ≡ true → ComesFirst Comes done.rest request (sends sent) served after.port
+  closes_with : (request : Request) (sent : Sent) → is_closing request.head ≡ true → ComesFirst Comes done.rest request (Ok sent) served after.port
       → length done.requests < most_requests → Wrote false before.sink after.sink (texts_of airport done.sents ++ sent_text airport sent)
       → AnswersEachBy Comes airport before after Closed input
   closes_with request sent closing first few wrote =
@@ -118,7 +118,7 @@ module _ (Comes : PortState → Request → Answered → PortState → Type 0) (
         sents = done.sents ++ sent ∷ [];
         last = [];
         each = each_is_listed input (done.requests ++ request ∷ []) closed reads (omega arith);
-        runs = runs_push (λ old r s new. Comes old r (sends s) new) before.port served after.port done.requests done.sents request sent runs first.comes;
+        runs = runs_push (λ old r s new. Comes old r (Ok s) new) before.port served after.port done.requests done.sents request sent runs first.comes;
         ends = (reads, refl);
         wrote = subst (Wrote false before.sink after.sink) (sym (append-nil (texts_of airport (done.sents ++ sent ∷ [])) ∙ texts_of-push airport done.sents sent)) wrote;
       }
@@ -149,7 +149,7 @@ module _ (Comes : PortState → Request → Answered → PortState → Type 0) (
   comes_to_end other last written ends read count is wrote counts free = absurd ends.0
 
 -- every session is complete
-pub sessions_complete_by : (Comes : PortState → Request → Answered → PortState → Type 0) (airport : AirportParts) (before after : SessionState) (outcome : Outcome)
+pub sessions_complete_by : (Comes : PortState → Request → Result Sent Outcome → PortState → Type 0) (airport : AirportParts) (before after : SessionState) (outcome : Outcome)
     → SessionBy Comes airport before after outcome → IsCompleteBy Comes airport before after outcome
 sessions_complete_by Comes airport before after outcome session input told free =
     let took = session.took in

@@ -5,6 +5,7 @@ use Rattle.std.specs.Prelude.{position}
 use Rattle.std.specs.Char.{is_ascii_digit}
 use Rattle.std.specs.List.{list_all}
 use Rattle.std.specs.Option.{option_map, option_and_then}
+use Rattle.std.proofs.lemmas.Bool.{and_parts}
 use Rattle.std.proofs.lemmas.Bool.Decides.{nat_tests}
 use Rattle.std.proofs.lemmas.List.{take-append-drop}
 use Rattle.std.proofs.lemmas.Slice.Eq.{bytes_eq-Decides}
@@ -14,7 +15,6 @@ use Rattle.desk_http.specs.FeedTargets.{feed_named, feed_of, feed_of_pieces, ver
 use Rattle.desk_http.specs.Targets.{pieces, plain_number, slash}
 use Rattle.desk_http.specs.declared.port.Feed.{Feed}
 use Rattle.desk_http.proofs.Pieces.{IsSome, first_slash, joined, joined-pieces, no_slash, one_piece, pieces-some, plain_number-digits}
-use Rattle.desk_http.proofs.Rows.{and-parts}
 use Rattle.desk_http.proofs.Takes.{by}
 
 -- ---- a version has no slash
@@ -22,7 +22,7 @@ use Rattle.desk_http.proofs.Takes.{by}
 digits-cut : (text : List ℕ) → list_all is_ascii_digit text ≡ true → has_slash text ≡ false
 digits-cut [] e = refl
 digits-cut (byte ∷ text) e =
-    let parts = and-parts (is_ascii_digit byte) (list_all is_ascii_digit text) e in
+    let parts = and_parts (is_ascii_digit byte) (list_all is_ascii_digit text) e in
     let digit = parts.0 in
     let other : (byte == 47) ≡ false = grind (arith, nat_tests) in
     rw other (digits-cut text parts.1)

@@ -1,28 +1,25 @@
--- The route of a target by its pieces, and by the endpoint whose pattern takes it.
-use Rattle.std.proofs.Common.{◌≡◌, ◌∙◌, ◌+◌, ◌==◌, ◌&&◌, not, ℕ, ◌<◌, suc, true, false, true≢false, cond, List, [], ◌∷◌, ◌++◌, append-nil, take, drop, Option, Some, None, refl, sym, ap, ap₂, subst, arith, lit<, ltb}
+-- The route of a target by its pieces, and by the row whose pattern takes it.
+use Rattle.std.proofs.Common.{◌≡◌, ◌∙◌, ◌+◌, ◌==◌, ◌&&◌, not, inl, inr, ℕ, ◌<◌, suc, true, false, true≢false, cond, Bool, List, [], ◌∷◌, ◌++◌, append-nil, append_assoc, bytes_eq, map, take, drop, Option, Some, None, refl, sym, ap, ap₂, subst, arith}
 use Rattle.std.specs.Prelude.{position}
-use Rattle.std.specs.Option.{option_map, option_and_then}
+use Rattle.std.specs.Option.{option_and_then, option_map, option_map_or}
 use Rattle.std.specs.Char.{is_ascii_digit}
 use Rattle.std.specs.List.{list_all, position_from}
 use Rattle.std.specs.Str.{IsAscii, IsUtf8}
 use Rattle.std.specs.Str.Parse.{digits_value}
-use Rattle.std.proofs.lemmas.Bool.{eqb-true, ltb-true}
+use Rattle.std.proofs.lemmas.Bool.{and_parts, eqb-true, ltb-true}
 use Rattle.std.proofs.lemmas.Bool.Decides.{nat_tests}
 use Rattle.std.proofs.lemmas.Iterator.Adapters.{position_from-zero}
+use Rattle.std.proofs.lemmas.Slice.Eq.{bytes_eq-Decides}
 use Rattle.std.proofs.lemmas.Str.{IsAscii-append, IsUtf8-from_ascii}
 use Rattle.std.proofs.lemmas.Str.Ascii.{IsAscii-nil, IsAscii-cons}
 use Rattle.matchit.specs.Seek.{has_slash}
 use Rattle.apron_base.specs.Digits.{are_digits, most_digits, number_of}
 use Rattle.desk_http.specs.Numbers.{within_32_bits}
-use Rattle.desk_http.specs.Table.{number_after_word, route_at}
-use Rattle.desk_http.specs.Targets.{endpoint_of, number_route, numbered_endpoints, onto_first, pieces, plain_endpoints, plain_number, route_of, route_of_pieces, slash, word_route, zero_digit}
-use Rattle.desk_http.specs.declared.targets.Endpoint.{Endpoint}
-use Rattle.desk_http.specs.declared.targets.Endpoint.TheVariants.{Plain, Numbered}
-use Rattle.desk_http.specs.declared.targets.NumberedEndpoint.{NumberedEndpoint}
+use Rattle.desk_http.specs.Table.{text_after_word}
+use Rattle.desk_http.specs.Targets.{Parameter, look_up, numbered, onto_first, pieces, plain_number, route_of, route_of_pieces, route_with, routes_of_words, routes_with_text, slash, zero_digit}
 use Rattle.desk_http.specs.declared.targets.Route.{Route}
-use Rattle.desk_http.specs.declared.targets.Route.TheVariants as route
-use Rattle.desk_http.proofs.Rows.{IsOn, and-parts, found_of, is_ascii_text, listed_of, number_end, numbered_distinct, numbered_word, plain_distinct, plain_word}
-use Rattle.desk_http.proofs.Takes.{by, takes, takes_on, takes_on-nil}
+use Rattle.desk_http.proofs.Rows.{In-left, In-map, In-right, IsOn, IsOnRow, Row, end_of, front_ascii, is_ascii, rows, same_in, text_row, word_row}
+use Rattle.desk_http.proofs.Takes.{In, by, takes, takes_on, takes_on-nil}
 
 -- ---- pieces and the target that they are of
 
@@ -119,19 +116,30 @@ first_slash text at e =
     let next : suc cut.count ≡ at + 1 = omega (arith, same) in
     cut.cut ∙ ap₂ (λ m n. take m text ∷ pieces (drop n text)) same next
 
--- ---- the route of a target of an endpoint
+-- ---- the route of a target of a row
 
--- a text before a slash is the first piece
-pieces-front : (word rest : List ℕ) → has_slash word ≡ false → pieces (word ++ slash ∷ rest) ≡ word ∷ pieces rest
-pieces-front [] rest e = refl
-pieces-front (byte ∷ word) rest e =
-    by (λ v. cond v true (has_slash word) ≡ false
-    → cond v ([] ∷ pieces (word ++ slash ∷ rest)) (onto_first byte (pieces (word ++ slash ∷ rest))) ≡ (byte ∷ word) ∷ pieces rest) (byte == 47)
-    (λ _ e. absurd (true≢false e)) (λ _ e. ap (onto_first byte) (pieces-front word rest e)) e
+-- the text goes on with the last piece
+abbrev onto_last : List (List ℕ) → List ℕ → List (List ℕ)
+onto_last [] text = []
+onto_last (piece ∷ []) text = (piece ++ text) ∷ []
+onto_last (piece ∷ next ∷ more) text = piece ∷ onto_last (next ∷ more) text
 
-takes-nil : (rest : List ℕ) → takes [] rest ≡ true → rest ≡ []
-takes-nil [] e = refl
-takes-nil (b ∷ rest) e = absurd (true≢false (sym e))
+last-slash : (ps : List (List ℕ)) (text : List ℕ) → IsSome ps → [] ∷ onto_last ps text ≡ onto_last ([] ∷ ps) text
+last-slash [] text h = absurd h
+last-slash (piece ∷ more) text h = refl
+
+last-onto : (byte : ℕ) (ps : List (List ℕ)) (text : List ℕ) → IsSome ps → onto_first byte (onto_last ps text) ≡ onto_last (onto_first byte ps) text
+last-onto byte [] text h = absurd h
+last-onto byte (piece ∷ []) text h = refl
+last-onto byte (piece ∷ next ∷ more) text h = refl
+
+-- a text without a slash goes on with the last piece of what is before it
+pieces-end : (front text : List ℕ) → has_slash text ≡ false → pieces (front ++ text) ≡ onto_last (pieces front) text
+pieces-end [] text cut = one_piece text cut
+pieces-end (byte ∷ front) text cut =
+    by (λ v. cond v ([] ∷ pieces (front ++ text)) (onto_first byte (pieces (front ++ text))) ≡ onto_last (cond v ([] ∷ pieces front) (onto_first byte (pieces front))) text) (byte == 47)
+    (λ _. ap (λ ps. [] ∷ ps) (pieces-end front text cut) ∙ last-slash (pieces front) text (pieces-some front))
+    (λ _. ap (onto_first byte) (pieces-end front text cut) ∙ last-onto byte (pieces front) text (pieces-some front))
 
 takes_on-cut : (rest : List ℕ) → takes_on [] rest ≡ true → has_slash rest ≡ false
 takes_on-cut [] e = refl
@@ -139,89 +147,101 @@ takes_on-cut (b ∷ rest) e =
     by (λ v. (not v && takes_on [] rest) ≡ true → cond v true (has_slash rest) ≡ false) (b == 47)
     (λ _ e. absurd (true≢false (sym e))) (λ _ e. takes_on-cut rest e) e
 
-takes-cut : (rest : List ℕ) → takes (256 ∷ []) rest ≡ true → has_slash rest ≡ false
-takes-cut [] e = absurd (true≢false (sym e))
-takes-cut (b ∷ rest) e =
-    by (λ v. (not v && takes_on [] rest) ≡ true → cond v true (has_slash rest) ≡ false) (b == 47)
-    (λ _ e. absurd (true≢false (sym e))) (λ _ e. takes_on-cut rest e) e
+-- the text, if there is one
+abbrev text_if : Bool → List ℕ → List ℕ
+text_if false text = []
+text_if true text = text
 
--- a slash and a number take a slash and one piece
-takes-end : (rest : List ℕ) → takes number_end rest ≡ true → (number : List ℕ) × (rest ≡ slash ∷ number) × (has_slash number ≡ false)
-takes-end [] e = absurd (true≢false (sym e))
-takes-end (b ∷ number) e =
-    let parts = and-parts (47 == b) (takes (256 ∷ []) number) e in
-    (number, ap (λ x. x ∷ number) (sym (eqb-true 47 b parts.0)), takes-cut number parts.1)
+-- the end of a pattern takes a text without a slash, and only that
+taken : (has_text : Bool) (rest : List ℕ) → takes (end_of has_text) rest ≡ true → (rest ≡ text_if has_text rest) × (has_slash rest ≡ false)
+taken false [] e = (refl, refl)
+taken false (b ∷ rest) e = absurd (true≢false (sym e))
+taken true [] e = absurd (true≢false (sym e))
+taken true (b ∷ rest) e = (
+  refl,
+  by (λ v. (not v && takes_on [] rest) ≡ true → cond v true (has_slash rest) ≡ false) (b == 47)
+      (λ _ e. absurd (true≢false (sym e))) (λ _ e. takes_on-cut rest e) e,
+)
 
-number_after : (named word number : List ℕ) → pieces named ≡ word ∷ number ∷ [] → number_after_word (slash ∷ named) ≡ plain_number number
-number_after named word number e =
-    elim (position (λ byte. byte == slash) named) as (λ o. position (λ byte. byte == slash) named ≡ o
-    → option_and_then (λ end. plain_number (drop (end + 1) named)) o ≡ plain_number number) [
-      | None ↦ λ none. (let one = sym (no_slash named none) ∙ e in absurd (cc))
-      | Some at ↦ λ some. (
-          let cut = sym (first_slash named at some) ∙ e in
-          let last : pieces (drop (at + 1) named) ≡ number ∷ [] = cc in
-          ap plain_number (sym (joined-pieces (drop (at + 1) named)) ∙ ap joined last))
+abbrev behind_first : List (List ℕ) → List (List ℕ)
+behind_first [] = []
+behind_first (piece ∷ more) = more
+
+-- the text after the word is what stands behind it
+text_is : (behind : List ℕ) → text_after_word (slash ∷ behind) ≡ joined (behind_first (pieces behind))
+text_is behind =
+    elim (position (λ byte. byte == slash) behind) as (λ o. position (λ byte. byte == slash) behind ≡ o
+    → option_map_or (λ end. drop (end + 1) behind) o [] ≡ joined (behind_first (pieces behind))) [
+      | None ↦ λ none. ap (λ ps. joined (behind_first ps)) (sym (no_slash behind none))
+      | Some at ↦ λ some. sym (joined-pieces (drop (at + 1) behind)) ∙ ap (λ ps. joined (behind_first ps)) (sym (first_slash behind at some))
     ] refl
 
-named_number : (endpoint : NumberedEndpoint) (found : Option NumberedEndpoint) (number : Option ℕ) → found ≡ Some endpoint
-    → option_map (route.Numbered endpoint) number ≡ option_and_then (λ n. option_map (λ e. route.Numbered e n) found) number
-named_number endpoint found None is = refl
-named_number endpoint found (Some n) is = rw is refl
+-- the pieces of a row's target with this text
+abbrev pieces_with : Row → List ℕ → List (List ℕ)
+pieces_with row text = onto_last (pieces row.front) (text_if row.has_text text)
 
--- the route of a target that an endpoint's pattern takes is the route of its pieces
-pub route_on : (path : List ℕ) (endpoint : Endpoint) → IsOn path endpoint → route_at endpoint path ≡ route_of path
-route_on path (Plain endpoint) on =
-    let cut = (plain_word on.word endpoint on.listed).cut in
-    let is : path ≡ slash ∷ on.word = on.is ∙ ap (λ rest. slash ∷ (on.word ++ rest)) (takes-nil on.rest on.taken) ∙ ap (λ word. slash ∷ word) (append-nil on.word) in
-    let found = found_of plain_endpoints on.word endpoint plain_distinct on.listed in
-    let named : route_of (slash ∷ on.word) ≡ Some (route.Plain endpoint) =
-    ap (λ more. route_of_pieces ([] ∷ more)) (one_piece on.word cut) ∙ ap (option_map route.Plain) found in
-    sym named ∙ ap route_of (sym is)
-route_on path (Numbered endpoint) on =
-    let cut = (numbered_word on.word endpoint on.listed).cut in
-    let end = takes-end on.rest on.taken in
-    let is : path ≡ slash ∷ (on.word ++ slash ∷ end.0) = on.is ∙ ap (λ rest. slash ∷ (on.word ++ rest)) end.1 in
-    let cut_at : pieces (on.word ++ slash ∷ end.0) ≡ on.word ∷ end.0 ∷ [] = pieces-front on.word end.0 cut ∙ ap (λ more. on.word ∷ more) (one_piece end.0 end.2) in
-    let found = found_of numbered_endpoints on.word endpoint numbered_distinct on.listed in
-    let number = number_after (on.word ++ slash ∷ end.0) on.word end.0 cut_at in
-    let named : route_of (slash ∷ (on.word ++ slash ∷ end.0)) ≡ option_and_then (number_route on.word) (plain_number end.0) = ap (λ more. route_of_pieces ([] ∷ more)) cut_at in
-    subst (λ p. option_map (route.Numbered endpoint) (number_after_word p) ≡ route_of p) (sym is)
-    (ap (option_map (route.Numbered endpoint)) number ∙ named_number endpoint (endpoint_of on.word numbered_endpoints) (plain_number end.0) found ∙ sym named)
+-- the routes of a row's targets, as the row reads them and as the definition does
+abbrev row_reads : Row → List ℕ → Option Route
+row_reads row text = row.read (joined (behind_first (pieces_with row text)))
+
+abbrev row_names : Row → List ℕ → Option Route
+row_names row text = route_of_pieces ([] ∷ pieces_with row text)
+
+rows_read : map row_reads rows ≡ map row_names rows
+rows_read = refl
+
+-- the route of a target that a row's pattern takes is the route of its pieces
+pub route_on : (path : List ℕ) (read : List ℕ → Option Route) → IsOn path read → read (text_after_word path) ≡ route_of path
+route_on path read (row, on, same) =
+    let end = taken row.has_text on.rest on.taken in
+    let cut : pieces (row.front ++ on.rest) ≡ pieces_with row on.rest = pieces-end row.front on.rest end.1 ∙ ap (onto_last (pieces row.front)) end.0 in
+    let reads = same_in row_reads row_names rows row rows_read on.listed in
+    let text : text_after_word path ≡ joined (behind_first (pieces_with row on.rest)) =
+    ap text_after_word on.is ∙ text_is (row.front ++ on.rest) ∙ ap (λ ps. joined (behind_first ps)) cut in
+    ap (λ (read : List ℕ → Option Route). read (text_after_word path)) (sym same) ∙ ap row.read text ∙ ap (λ (f : List ℕ → Option Route). f on.rest) reads
+    ∙ ap (λ ps. route_of_pieces ([] ∷ ps)) (sym cut) ∙ ap route_of (sym on.is)
 
 -- ---- a target that names a route
 
 -- a pattern takes the target, which is ASCII
 abbrev IsTaken : List ℕ → Type 0
-IsTaken path = ((endpoint : Endpoint) × IsOn path endpoint) × IsAscii path
+IsTaken path = ((row : Row) × IsOnRow row path) × IsAscii path
 
-ascii : (text : List ℕ) → is_ascii_text text ≡ true → IsAscii text
-ascii [] e = IsAscii-nil
-ascii (byte ∷ text) e = let parts = and-parts (ltb byte 128) (is_ascii_text text) e in IsAscii-cons byte text (ltb-true byte 128 parts.0) (ascii text parts.1)
+-- a text of bytes that pass a test, if only bytes of ASCII do
+all-ascii : (test : ℕ → Bool) → ((byte : ℕ) → test byte ≡ true → byte < 128) → (text : List ℕ) → list_all test text ≡ true → IsAscii text
+all-ascii test are [] e = IsAscii-nil
+all-ascii test are (byte ∷ text) e =
+    let parts = and_parts (test byte) (list_all test text) e in
+    IsAscii-cons byte text (are byte parts.0) (all-ascii test are text parts.1)
 
-of_word : (word : List ℕ) (found : Route) → word_route word ≡ Some found → IsTaken (slash ∷ word)
+-- what is looked up is listed
+listed_of : {A : Type 0} (listed : List (List ℕ × A)) (word : List ℕ) (value : A) → look_up word listed ≡ Some value → In listed (word, value)
+listed_of [] word value e = absurd (cc)
+listed_of ((name, first) ∷ listed) word value e =
+    by (λ v. cond v (Some first) (look_up word listed) ≡ Some value → In ((name, first) ∷ listed) (word, value)) (bytes_eq word name)
+    (λ same e.
+    let here : name ≡ word = sym ((bytes_eq-Decides word name).0 same) in
+    let first_is : first ≡ value = cc in
+    inl (λ i. (here i, first_is i)))
+    (λ _ e. inr (listed_of listed word value e)) e
+
+row_taken : (row : Row) (rest : List ℕ) → In rows row → takes (end_of row.has_text) rest ≡ true → IsAscii rest → IsTaken (slash ∷ (row.front ++ rest))
+row_taken row rest i taken plain =
+    ((row, record { listed = i; rest = rest; is = refl; taken = taken }), IsAscii-append (slash ∷ row.front) rest (all-ascii is_ascii (λ byte. ltb-true byte 128) (slash ∷ row.front) (front_ascii row i)) plain)
+
+of_word : (word : List ℕ) (found : Route) → look_up word routes_of_words ≡ Some found → IsTaken (slash ∷ word)
 of_word word found e =
-    elim (endpoint_of word plain_endpoints) as (λ o. endpoint_of word plain_endpoints ≡ o → option_map route.Plain o ≡ Some found → IsTaken (slash ∷ word)) [
-      | None ↦ λ _ e. absurd (cc)
-      | Some endpoint ↦ λ is _. (
-          let listed = listed_of plain_endpoints word endpoint is in (
-            (Plain endpoint, record { word = word; listed = listed; rest = []; is = ap (λ w. slash ∷ w) (sym (append-nil word)); taken = refl }),
-            ascii (slash ∷ word) (plain_word word endpoint listed).ascii,
-          ))
-    ] refl e
+    let i = In-left (map word_row routes_of_words) (map text_row routes_with_text) (word_row (word, found)) (In-map word_row routes_of_words (word, found) (listed_of routes_of_words word found e)) in
+    subst (λ w. IsTaken (slash ∷ w)) (append-nil word) (row_taken (word_row (word, found)) [] i refl IsAscii-nil)
 
-digits-ascii : (text : List ℕ) → list_all is_ascii_digit text ≡ true → IsAscii text
-digits-ascii [] e = IsAscii-nil
-digits-ascii (byte ∷ text) e =
-    let parts = and-parts (is_ascii_digit byte) (list_all is_ascii_digit text) e in
-    let digit = parts.0 in
-    let small : byte < 128 = grind (arith, nat_tests) in
-    IsAscii-cons byte text small (digits-ascii text parts.1)
+digit-ascii : (byte : ℕ) → is_ascii_digit byte ≡ true → byte < 128
+digit-ascii byte e = grind (arith, nat_tests)
 
 number-digits : (text : List ℕ) (n : ℕ) → number_of text most_digits ≡ Some n → list_all is_ascii_digit text ≡ true
 unfolding number_of
 number-digits text n e =
     by (λ v. are_digits text most_digits ≡ v → cond v (Some (digits_value 10 text)) None ≡ Some n → list_all is_ascii_digit text ≡ true) (are_digits text most_digits)
-    (λ _ are e. (and-parts _ (list_all is_ascii_digit text) are).1) (λ _ are e. absurd (cc)) refl e
+    (λ _ are e. (and_parts _ (list_all is_ascii_digit text) are).1) (λ _ are e. absurd (cc)) refl e
 
 pub plain_number-digits : (text : List ℕ) (n : ℕ) → plain_number text ≡ Some n → list_all is_ascii_digit text ≡ true
 plain_number-digits [] n e = absurd (cc)
@@ -233,45 +253,47 @@ plain_number-digits (digit ∷ digits) n e =
       | Some m ↦ λ is e. number-digits (digit ∷ digits) m is
     ] refl e) e
 
--- a parameter takes what writes a number
-takes-number : (number : List ℕ) (n : ℕ) → has_slash number ≡ false → plain_number number ≡ Some n → takes (256 ∷ []) number ≡ true
-takes-number [] n cut e = absurd (cc)
-takes-number (byte ∷ rest) n cut e =
-    by (λ v. cond v true (has_slash rest) ≡ false → (not v && takes_on [] rest) ≡ true) (byte == 47)
-    (λ _ cut. absurd (true≢false cut)) (λ _ cut. takes_on-nil rest cut) cut
-
-of_number : (word number : List ℕ) (n : ℕ) (found : Route) → has_slash number ≡ false → plain_number number ≡ Some n → number_route word n ≡ Some found
-    → IsTaken (slash ∷ (word ++ slash ∷ number))
-of_number word number n found cut digits e =
-    elim (endpoint_of word numbered_endpoints) as (λ o. endpoint_of word numbered_endpoints ≡ o → option_map (λ endpoint. route.Numbered endpoint n) o ≡ Some found
-    → IsTaken (slash ∷ (word ++ slash ∷ number))) [
+-- a text that names a route is ASCII
+read-ascii : (text : List ℕ) (parameter : Parameter) (found : Route) → route_with text parameter ≡ Some found → IsAscii text
+read-ascii text (numbered route) found e =
+    elim (plain_number text) as (λ o. plain_number text ≡ o → option_map route o ≡ Some found → IsAscii text) [
       | None ↦ λ _ e. absurd (cc)
-      | Some endpoint ↦ λ is _. (
-          let listed = listed_of numbered_endpoints word endpoint is in
-          let end : IsAscii (slash ∷ number) = IsAscii-cons slash number (lit< tt) (digits-ascii number (plain_number-digits number n digits)) in
-          let all = IsAscii-append (slash ∷ word) (slash ∷ number) (ascii (slash ∷ word) (numbered_word word endpoint listed).ascii) end in
-          ((Numbered endpoint, record { word = word; listed = listed; rest = slash ∷ number; is = refl; taken = takes-number number n cut digits }), all))
+      | Some n ↦ λ is _. all-ascii is_ascii_digit digit-ascii text (plain_number-digits text n is)
+    ] refl e
+
+-- the empty text names none
+read-nil : (parameter : Parameter) → route_with [] parameter ≡ None
+read-nil (numbered route) = refl
+
+-- a parameter takes a text that names a route
+takes-text : (text : List ℕ) (parameter : Parameter) (found : Route) → has_slash text ≡ false → route_with text parameter ≡ Some found → takes (256 ∷ []) text ≡ true
+takes-text [] parameter found cut e = let none = read-nil parameter in absurd (cc)
+takes-text (byte ∷ text) parameter found cut e =
+    by (λ v. cond v true (has_slash text) ≡ false → (not v && takes_on [] text) ≡ true) (byte == 47)
+    (λ _ cut. absurd (true≢false cut)) (λ _ cut. takes_on-nil text cut) cut
+
+of_text : (word text : List ℕ) (found : Route) → has_slash text ≡ false → option_and_then (route_with text) (look_up word routes_with_text) ≡ Some found
+    → IsTaken (slash ∷ (word ++ slash ∷ text))
+of_text word text found cut e =
+    elim (look_up word routes_with_text) as (λ o. look_up word routes_with_text ≡ o → option_and_then (route_with text) o ≡ Some found
+    → IsTaken (slash ∷ (word ++ slash ∷ text))) [
+      | None ↦ λ _ e. absurd (cc)
+      | Some parameter ↦ λ is e. (
+          let row = text_row (word, parameter) in
+          let i = In-right (map word_row routes_of_words) (map text_row routes_with_text) row (In-map text_row routes_with_text (word, parameter) (listed_of routes_with_text word parameter is)) in
+          subst (λ t. IsTaken (slash ∷ t)) (append_assoc word (slash ∷ []) text)
+          (row_taken row text i (takes-text text parameter found cut e) (read-ascii text parameter found e)))
     ] refl e
 
 of_pieces : (ps : List (List ℕ)) (found : Route) → AreCut ps → route_of_pieces ps ≡ Some found → IsTaken (joined ps)
-of_pieces [] found cut e = absurd (cc)
-of_pieces ([] ∷ []) found cut e = absurd (cc)
 of_pieces ([] ∷ word ∷ []) found cut e = of_word word found e
-of_pieces ([] ∷ word ∷ number ∷ []) found cut e =
-    elim (plain_number number) as (λ o. plain_number number ≡ o → option_and_then (number_route word) o ≡ Some found → IsTaken (47 ∷ (word ++ 47 ∷ number))) [
-      | None ↦ λ _ e. absurd (cc)
-      | Some n ↦ λ is e. of_number word number n found cut.1.1.0 is e
-    ] refl e
-of_pieces ([] ∷ word ∷ number ∷ more ∷ rest) found cut e = absurd (cc)
-of_pieces ((byte ∷ piece) ∷ []) found cut e = absurd (cc)
-of_pieces ((byte ∷ piece) ∷ word ∷ []) found cut e = absurd (cc)
-of_pieces ((byte ∷ piece) ∷ word ∷ number ∷ []) found cut e = absurd (cc)
-of_pieces ((byte ∷ piece) ∷ word ∷ number ∷ more ∷ rest) found cut e = absurd (cc)
+of_pieces ([] ∷ word ∷ text ∷ []) found cut e = of_text word text found cut.1.1.0 e
+of_pieces _ found cut e = absurd (cc)
 
 pub route_taken : (path : List ℕ) (found : Route) → route_of path ≡ Some found → IsTaken path
 route_taken path found e = subst IsTaken (joined-pieces path) (of_pieces (pieces path) found (pieces-cut path) e)
 
-pub no_route : (path : List ℕ) → ((endpoint : Endpoint) → IsOn path endpoint → ⊥) → None ≡ route_of path
+pub no_route : (path : List ℕ) → ((row : Row) → IsOnRow row path → ⊥) → None ≡ route_of path
 no_route path none =
     elim (route_of path) as (λ o. route_of path ≡ o → None ≡ o) [
       | None ↦ λ e. refl

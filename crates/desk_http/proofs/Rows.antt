@@ -1,25 +1,48 @@
--- The rows of the router are those of all endpoints, and what the router finds in them.
-use Rattle.std.proofs.Common.{◌≡◌, ◌==◌, ◌&&◌, ◌++◌, ◌⊎◌, not, ℕ, Bool, true, false, true≢false, List, [], ◌∷◌, codes, cond, Some, None, Result, Ok, Err, refl, sym, ap, ◌∙◌, subst, arith, inl, inr, bytes_eq, is_some, lit<, ltb, suc, get_or, Fits, w8}
-use Rattle.std.proofs.lemmas.Bool.{eq-eqb, eqb-true, ltb-true}
-use Rattle.std.proofs.lemmas.Slice.Eq.{bytes_eq-Decides}
+-- The rows of the router are those of all routes, and what the router finds in them.
+use Rattle.std.proofs.Common.{◌≡◌, ◌==◌, ◌&&◌, ◌++◌, ◌⊎◌, not, ℕ, Bool, true, false, true≢false, List, [], ◌∷◌, cond, map, Option, Some, None, Result, Ok, Err, refl, sym, ap, ◌∙◌, subst, arith, inl, inr, is_some, ltb, suc, get_or, Fits, w8}
+use Rattle.std.specs.List.{list_all}
+use Rattle.std.proofs.lemmas.Bool.{and_parts, eq-eqb, eqb-true, ltb-true}
 use Rattle.matchit.specs.Order.{placed}
 use Rattle.matchit.specs.Route.{Scan, parse_route}
 use Rattle.matchit.specs.Router.{RouteOf, route_from}
 use Rattle.matchit.specs.Rows.{RowsOf, comes_before}
-use Rattle.matchit.specs.Seek.{first, has_slash}
+use Rattle.matchit.specs.Seek.{first}
 use Rattle.matchit.specs.declared.error.InsertError.{InsertError}
 use Rattle.matchit.proofs.OnLiterals.{matchit_on_literals}
-use Rattle.desk_http.specs.Table.{Table, plain_row, table, with_read, with_route, with_routes}
-use Rattle.desk_http.specs.Targets.{endpoint_of, numbered_endpoints, plain_endpoints, slash}
+use Rattle.desk_http.specs.Table.{Table, route_at, table, with_read, with_route, with_routes}
+use Rattle.desk_http.specs.Targets.{Parameter, route_with, routes_of_words, routes_with_text, slash}
 use Rattle.desk_http.specs.declared.targets.Endpoint.{Endpoint}
-use Rattle.desk_http.specs.declared.targets.Endpoint.TheVariants.{Plain, Numbered}
-use Rattle.desk_http.specs.declared.targets.NumberedEndpoint.{NumberedEndpoint}
-use Rattle.desk_http.specs.declared.targets.PlainEndpoint.{PlainEndpoint}
-use Rattle.desk_http.proofs.Takes.{sound, complete, by, takes, takes_on, AreBytes, Has, IsPlain, ArePlain}
+use Rattle.desk_http.specs.declared.targets.Route.{Route}
+use Rattle.desk_http.specs.declared.targets.TheConstants.{PATTERNS}
+use Rattle.desk_http.proofs.Takes.{sound, complete, by, takes, takes_on, AreBytes, Has, In, IsPlain, ArePlain}
 
-pub and-parts : (a b : Bool) → (a && b) ≡ true → (a ≡ true) × (b ≡ true)
-and-parts true b e = (refl, e)
-and-parts false b e = absurd (true≢false (sym e))
+-- ---- lists
+
+pub In-map : {A B : Type 0} (f : A → B) (items : List A) (item : A) → In items item → In (map f items) (f item)
+In-map f [] item i = i
+In-map f (first ∷ rest) item (inl same) = inl (ap f same)
+In-map f (first ∷ rest) item (inr later) = inr (In-map f rest item later)
+
+-- the item of which a mapped list has the value
+of-map : {A B : Type 0} (f : A → B) (items : List A) (value : B) → In (map f items) value → (item : A) × In items item × (f item ≡ value)
+of-map f [] value i = absurd i
+of-map f (first ∷ rest) value (inl same) = (first, inl refl, same)
+of-map f (first ∷ rest) value (inr later) = let r = of-map f rest value later in (r.0, inr r.1, r.2)
+
+pub In-left : {A : Type 0} (xs ys : List A) (item : A) → In xs item → In (xs ++ ys) item
+In-left [] ys item i = absurd i
+In-left (x ∷ xs) ys item (inl same) = inl same
+In-left (x ∷ xs) ys item (inr later) = inr (In-left xs ys item later)
+
+pub In-right : {A : Type 0} (xs ys : List A) (item : A) → In ys item → In (xs ++ ys) item
+In-right [] ys item i = i
+In-right (x ∷ xs) ys item i = inr (In-right xs ys item i)
+
+-- two functions that agree on a list agree at each of its items
+pub same_in : {A B : Type 0} (f g : A → B) (items : List A) (item : A) → map f items ≡ map g items → In items item → f item ≡ g item
+same_in f g [] item same i = absurd i
+same_in {A} f g (first ∷ rest) item same (inl here) = let e : f first ≡ g first = cc in subst (λ (x : A). f x ≡ g x) here e
+same_in f g (first ∷ rest) item same (inr later) = same_in f g rest item (cc) later
 
 -- ---- rows with one more in its place
 
@@ -64,310 +87,196 @@ read-stays : (read : Result Scan InsertError) (value : Endpoint) (rs : Table) (t
 read-stays (Ok scan) value rs t e h = Has-placed (scan.pattern, route_from scan value) rs t e (inr h)
 read-stays (Err fault) value rs t e h = h
 
--- the text is read as these bytes
-abbrev is_read_as : Result Scan InsertError → List ℕ → Bool
-is_read_as (Ok scan) bytes = bytes_eq scan.pattern bytes
-is_read_as (Err fault) bytes = false
+read-new : (read : Result Scan InsertError) (byte : ℕ) (bytes : List ℕ) (value : Endpoint) (rs : Table) → bytes_of read ≡ byte ∷ bytes
+    → (e : RouteOf Endpoint) × Has (with_read read value rs) (byte ∷ bytes) e
+read-new (Ok scan) byte bytes value rs is = (route_from scan value, Has-placed (scan.pattern, route_from scan value) rs (byte ∷ bytes) _ (inl (ap (λ t. (t, route_from scan value)) is)))
+read-new (Err fault) byte bytes value rs is = absurd (cc)
 
-read_as : (read : Result Scan InsertError) (bytes : List ℕ) → is_read_as read bytes ≡ true → bytes_of read ≡ bytes
-read_as (Ok scan) bytes e = (bytes_eq-Decides scan.pattern bytes).0 e
-read_as (Err fault) bytes e = absurd (true≢false (sym e))
+-- ---- rows with one more for each pattern
 
-read-new : (read : Result Scan InsertError) (bytes : List ℕ) (value : Endpoint) (rs : Table) → is_read_as read bytes ≡ true
-    → (e : RouteOf Endpoint) × Has (with_read read value rs) bytes e
-read-new (Ok scan) bytes value rs is =
-    let same = (bytes_eq-Decides scan.pattern bytes).0 is in
-    (route_from scan value, Has-placed (scan.pattern, route_from scan value) rs bytes _ (inl (ap (λ t. (t, route_from scan value)) same)))
-read-new (Err fault) bytes value rs is = absurd (true≢false (sym is))
-
--- ---- the words of endpoints
-
--- there are only bytes of ASCII
-abbrev pub is_ascii_text : List ℕ → Bool
-is_ascii_text [] = true
-is_ascii_text (byte ∷ text) = ltb byte 128 && is_ascii_text text
-
--- a word of ASCII without a slash, whose pattern the router reads as a slash, the word and this end
-abbrev is_word : (List ℕ → List ℕ) → List ℕ → List ℕ → Bool
-is_word pattern end word = (is_ascii_text word && not (has_slash word)) && is_read_as (parse_route (pattern word)) (slash ∷ (word ++ end))
-
-abbrev are_words : {A : Type 0} → (List ℕ → List ℕ) → List ℕ → RowsOf A → Bool
-are_words pattern end [] = true
-are_words pattern end ((word, endpoint) ∷ rows) = is_word pattern end word && are_words pattern end rows
-
-pub record IsWord (pattern : List ℕ → List ℕ) (end word : List ℕ) : Type 0 where
-  pub ascii : is_ascii_text word ≡ true
-  pub cut : has_slash word ≡ false
-  pub read : is_read_as (parse_route (pattern word)) (slash ∷ (word ++ end)) ≡ true
-
-not-true : (b : Bool) → not b ≡ true → b ≡ false
-not-true true e = absurd (true≢false (sym e))
-not-true false e = refl
-
-word_in : {A : Type 0} (pattern : List ℕ → List ℕ) (end : List ℕ) (rows : RowsOf A) (word : List ℕ) (endpoint : A)
-    → are_words pattern end rows ≡ true → Has rows word endpoint → IsWord pattern end word
-word_in pattern end [] word endpoint are i = absurd i
-word_in {A} pattern end ((name, first) ∷ rows) word endpoint are i =
-    let parts = and-parts (is_word pattern end name) (are_words pattern end rows) are in
-    elim i [
-      | inl same ↦ (
-          let here = and-parts (is_ascii_text name && not (has_slash name)) (is_read_as (parse_route (pattern name)) (slash ∷ (name ++ end))) parts.0 in
-          let text = and-parts (is_ascii_text name) (not (has_slash name)) here.0 in
-          let P : List ℕ × A → Type 0 = λ row. IsWord pattern end row.0 in
-          subst P same (record { ascii = text.0; cut = not-true (has_slash name) text.1; read = here.1 }))
-      | inr later ↦ word_in pattern end rows word endpoint parts.1 later
-    ]
-
--- no word is there twice
-abbrev are_distinct : {A : Type 0} → RowsOf A → Bool
-are_distinct [] = true
-are_distinct ((word, endpoint) ∷ rows) = not (is_some (endpoint_of word rows)) && are_distinct rows
-
-bytes_eq-same : (text : List ℕ) → bytes_eq text text ≡ true
-bytes_eq-same text = (bytes_eq-Decides text text).1 refl
-
--- each endpoint that is listed is that of its word
-pub found_of : {A : Type 0} (rows : RowsOf A) (word : List ℕ) (endpoint : A) → are_distinct rows ≡ true → Has rows word endpoint → endpoint_of word rows ≡ Some endpoint
-found_of [] word endpoint are i = absurd i
-found_of {A} ((name, first) ∷ rows) word endpoint are i =
-    let parts = and-parts (not (is_some (endpoint_of name rows))) (are_distinct rows) are in
-    elim i [
-      | inl same ↦ (
-          let P : List ℕ × A → Type 0 = λ row. cond (bytes_eq row.0 name) (Some first) (endpoint_of row.0 rows) ≡ Some row.1 in
-          subst P same (rw (bytes_eq-same name) refl))
-      | inr later ↦ (
-          let found = found_of rows word endpoint parts.1 later in
-          by (λ v. cond v (Some first) (endpoint_of word rows) ≡ Some endpoint) (bytes_eq word name)
-          (λ same.
-          let again = subst (λ w. endpoint_of w rows ≡ Some endpoint) ((bytes_eq-Decides word name).0 same) found in
-          absurd (true≢false (sym parts.0 ∙ ap (λ o. not (is_some o)) again)))
-          (λ _. found))
-    ]
-
--- each endpoint of a word is listed
-pub listed_of : {A : Type 0} (rows : RowsOf A) (word : List ℕ) (endpoint : A) → endpoint_of word rows ≡ Some endpoint → Has rows word endpoint
-listed_of [] word endpoint e = absurd (cc)
-listed_of ((name, first) ∷ rows) word endpoint e =
-    by (λ v. cond v (Some first) (endpoint_of word rows) ≡ Some endpoint → Has ((name, first) ∷ rows) word endpoint) (bytes_eq word name)
-    (λ same e.
-    let here : name ≡ word = sym ((bytes_eq-Decides word name).0 same) in
-    let first_is : first ≡ endpoint = cc in
-    inl (λ i. (here i, first_is i)))
-    (λ _ e. inr (listed_of rows word endpoint e)) e
-
--- ---- the rows of endpoints of a kind
-
--- a row of an endpoint of these: a slash, its word and this end
-record IsRowOf {A : Type 0} (kind : A → Endpoint) (end : List ℕ) (rows : RowsOf A) (t : List ℕ) (value : Endpoint) : Type 0 where
-  word : List ℕ
-  endpoint : A
-  listed : Has rows word endpoint
-  bytes : t ≡ slash ∷ (word ++ end)
-  is : kind endpoint ≡ value
-
-module _ {A : Type 0} (pattern : List ℕ → List ℕ) (kind : A → Endpoint) (end : List ℕ) where
-  -- an endpoint with its pattern
-  abbrev row_of : List ℕ × A → List ℕ × Endpoint
-  row_of (word, endpoint) = (pattern word, kind endpoint)
-
-  routes-Has : (rows : RowsOf A) (rs : Table) (t : List ℕ) (e : RouteOf Endpoint) → are_words pattern end rows ≡ true
-      → Has (with_routes row_of rows rs) t e → IsRowOf kind end rows t e.value ⊎ Has rs t e
+module _ {A : Type 0} (row : A → List ℕ × Endpoint) where
+  routes-Has : (rows : List A) (rs : Table) (t : List ℕ) (e : RouteOf Endpoint) → Has (with_routes row rows rs) t e
+      → ((item : A) × In rows item × (t ≡ bytes_of (parse_route (row item).0)) × ((row item).1 ≡ e.value)) ⊎ Has rs t e
   unfolding with_route
-  routes-Has [] rs t e are h = inr h
-  routes-Has ((word, endpoint) ∷ rows) rs t e are h =
-      let parts = and-parts (is_word pattern end word) (are_words pattern end rows) are in
-      elim (routes-Has rows (with_route (pattern word) (kind endpoint) rs) t e parts.1 h) [
-        | inl later ↦ inl (record { word = later.word; endpoint = later.endpoint; listed = inr later.listed; bytes = later.bytes; is = later.is })
-        | inr there ↦ elim (read-Has (parse_route (pattern word)) (kind endpoint) rs t e there) [
-          | inl new ↦ (
-              let fine = word_in pattern end ((word, endpoint) ∷ rows) word endpoint are (inl refl) in
-              inl (record {
-                word = word;
-                endpoint = endpoint;
-                listed = inl refl;
-                bytes = new.0 ∙ read_as (parse_route (pattern word)) (slash ∷ (word ++ end)) fine.read;
-                is = new.1;
-              }))
+  routes-Has [] rs t e h = inr h
+  routes-Has (first ∷ rows) rs t e h =
+      elim (routes-Has rows (with_route (row first).0 (row first).1 rs) t e h) [
+        | inl later ↦ inl (later.0, inr later.1, later.2, later.3)
+        | inr there ↦ elim (read-Has (parse_route (row first).0) (row first).1 rs t e there) [
+          | inl new ↦ inl (first, inl refl, new.0, new.1)
           | inr old ↦ inr old
         ]
       ]
 
-  routes-stay : (rows : RowsOf A) (rs : Table) (t : List ℕ) (e : RouteOf Endpoint) → Has rs t e → Has (with_routes row_of rows rs) t e
+  routes-stay : (rows : List A) (rs : Table) (t : List ℕ) (e : RouteOf Endpoint) → Has rs t e → Has (with_routes row rows rs) t e
   unfolding with_route
   routes-stay [] rs t e h = h
-  routes-stay ((word, endpoint) ∷ rows) rs t e h =
-      routes-stay rows (with_route (pattern word) (kind endpoint) rs) t e (read-stays (parse_route (pattern word)) (kind endpoint) rs t e h)
+  routes-stay (first ∷ rows) rs t e h =
+      routes-stay rows (with_route (row first).0 (row first).1 rs) t e (read-stays (parse_route (row first).0) (row first).1 rs t e h)
 
-  routes-new : (rows : RowsOf A) (rs : Table) (word : List ℕ) (endpoint : A) → are_words pattern end rows ≡ true → Has rows word endpoint
-      → (e : RouteOf Endpoint) × Has (with_routes row_of rows rs) (slash ∷ (word ++ end)) e
+  routes-new : (rows : List A) (rs : Table) (item : A) (byte : ℕ) (bytes : List ℕ) → In rows item → bytes_of (parse_route (row item).0) ≡ byte ∷ bytes
+      → (e : RouteOf Endpoint) × Has (with_routes row rows rs) (byte ∷ bytes) e
   unfolding with_route
-  routes-new [] rs word endpoint are i = absurd i
-  routes-new ((name, first) ∷ rows) rs word endpoint are i =
-      let parts = and-parts (is_word pattern end name) (are_words pattern end rows) are in
-      let next = with_route (pattern name) (kind first) rs in
-      elim i [
-        | inl same ↦ (
-            let fine = word_in pattern end ((name, first) ∷ rows) name first are (inl refl) in
-            let new = read-new (parse_route (pattern name)) (slash ∷ (name ++ end)) (kind first) rs fine.read in
-            let there = routes-stay rows next (slash ∷ (name ++ end)) new.0 new.1 in
-            (new.0, subst (λ w. Has (with_routes row_of rows next) (slash ∷ (w ++ end)) new.0) (ap (λ (row : List ℕ × A). row.0) same) there))
-        | inr later ↦ routes-new rows next word endpoint parts.1 later
-      ]
+  routes-new [] rs item byte bytes i is = absurd i
+  routes-new (first ∷ rows) rs item byte bytes (inl same) is =
+      let new = read-new (parse_route (row first).0) byte bytes (row first).1 rs (ap (λ (x : A). bytes_of (parse_route (row x).0)) same ∙ is) in
+      (new.0, routes-stay rows (with_route (row first).0 (row first).1 rs) (byte ∷ bytes) new.0 new.1)
+  routes-new (first ∷ rows) rs item byte bytes (inr later) is = routes-new rows (with_route (row first).0 (row first).1 rs) item byte bytes later is
 
--- ---- the rows of all endpoints
+-- ---- the routes as rows
 
-abbrev pub plain_pattern : List ℕ → List ℕ
-plain_pattern word = slash ∷ word
+-- the routes of a word, or of a word and a text after it: the front of their targets behind the first slash, whether a text comes after it, and
+-- the route that the text names
+pub record Row : Type 0 where
+  pub front : List ℕ
+  pub has_text : Bool
+  pub read : List ℕ → Option Route
 
-abbrev pub numbered_pattern : List ℕ → List ℕ
-numbered_pattern word = slash ∷ (word ++ codes "/{n}")
+abbrev pub word_row : List ℕ × Route → Row
+word_row (word, route) = record { front = word; has_text = false; read = λ text. Some route }
 
--- a slash and a number
-abbrev pub number_end : List ℕ
-number_end = slash ∷ 256 ∷ []
+abbrev pub text_row : List ℕ × Parameter → Row
+text_row (word, parameter) = record { front = word ++ slash ∷ []; has_text = true; read = λ text. route_with text parameter }
 
-pub plain_words : are_words plain_pattern [] plain_endpoints ≡ true
+abbrev pub rows : List Row
+rows = map word_row routes_of_words ++ map text_row routes_with_text
+
+-- how a pattern goes on after the front
+abbrev pub end_of : Bool → List ℕ
+end_of false = []
+end_of true = 256 ∷ []
+
+-- the bytes of a row's pattern
+abbrev pub pattern_of : Row → List ℕ
+pattern_of row = slash ∷ (row.front ++ end_of row.has_text)
+
+-- a row's pattern, and how it reads a text
+abbrev Shown : Type 0
+Shown = List ℕ × (List ℕ → Option Route)
+
+abbrev shown : Row → Shown
+shown row = (pattern_of row, row.read)
+
+-- the same of what the router is given
+abbrev read_as : List ℕ → Endpoint → Shown
+read_as pattern endpoint = (bytes_of (parse_route pattern), route_at endpoint)
+
+-- the router's rows are those of the routes, in their order
+rows_are : map (λ row. read_as row.0.now row.1) PATTERNS ≡ map shown rows
 unfolding matchit_on_literals
-plain_words = refl
+rows_are = refl
 
-pub numbered_words : are_words numbered_pattern number_end numbered_endpoints ≡ true
-unfolding matchit_on_literals
-numbered_words = refl
+-- a byte of ASCII
+abbrev pub is_ascii : ℕ → Bool
+is_ascii byte = ltb byte 128
 
-pub plain_distinct : are_distinct plain_endpoints ≡ true
-plain_distinct = refl
+fronts_are_ascii : map (λ row. list_all is_ascii row.front) rows ≡ map (λ row. true) rows
+fronts_are_ascii = refl
 
-pub numbered_distinct : are_distinct numbered_endpoints ≡ true
-numbered_distinct = refl
+pub front_ascii : (row : Row) → In rows row → list_all is_ascii (slash ∷ row.front) ≡ true
+front_ascii row i = same_in (λ row. list_all is_ascii row.front) (λ row. true) rows row fronts_are_ascii i
 
-pub plain_word : (word : List ℕ) (endpoint : PlainEndpoint) → Has plain_endpoints word endpoint → IsWord plain_pattern [] word
-plain_word word endpoint i = word_in plain_pattern [] plain_endpoints word endpoint plain_words i
-
-pub numbered_word : (word : List ℕ) (endpoint : NumberedEndpoint) → Has numbered_endpoints word endpoint → IsWord numbered_pattern number_end word
-numbered_word word endpoint i = word_in numbered_pattern number_end numbered_endpoints word endpoint numbered_words i
-
-table-Has : (t : List ℕ) (e : RouteOf Endpoint) → Has table t e → IsRowOf Plain [] plain_endpoints t e.value ⊎ IsRowOf Numbered number_end numbered_endpoints t e.value
+table-Has : (t : List ℕ) (e : RouteOf Endpoint) → Has table t e → (row : Row) × In rows row × (pattern_of row ≡ t) × (row.read ≡ route_at e.value)
 unfolding table
 table-Has t e i =
-    elim (routes-Has numbered_pattern Numbered number_end numbered_endpoints (with_routes plain_row plain_endpoints []) t e numbered_words i) [
-      | inl row ↦ inr row
-      | inr there ↦ elim (routes-Has plain_pattern Plain [] plain_endpoints [] t e plain_words there) [ inl row ↦ inl row | inr none ↦ absurd none ]
+    elim (routes-Has (λ row. (row.0.now, row.1)) PATTERNS [] t e i) [
+      | inl it ↦ (
+          let known = In-map (λ row. read_as row.0.now row.1) PATTERNS it.0 it.1 in
+          let r = of-map shown rows _ (subst (λ list. In list (read_as it.0.0.now it.0.1)) rows_are known) in
+          (r.0, r.1, ap (λ (x : Shown). x.0) r.2 ∙ sym it.2, ap (λ (x : Shown). x.1) r.2 ∙ ap route_at it.3))
+      | inr none ↦ absurd none
     ]
 
-plain-Has : (word : List ℕ) (endpoint : PlainEndpoint) → Has plain_endpoints word endpoint → (e : RouteOf Endpoint) × Has table (slash ∷ (word ++ [])) e
+row-Has : (row : Row) → In rows row → (e : RouteOf Endpoint) × Has table (pattern_of row) e
 unfolding table
-plain-Has word endpoint i =
-    let new = routes-new plain_pattern Plain [] plain_endpoints [] word endpoint plain_words i in
-    (new.0, routes-stay numbered_pattern Numbered number_end numbered_endpoints (with_routes plain_row plain_endpoints []) (slash ∷ (word ++ [])) new.0 new.1)
-
-numbered-Has : (word : List ℕ) (endpoint : NumberedEndpoint) → Has numbered_endpoints word endpoint → (e : RouteOf Endpoint) × Has table (slash ∷ (word ++ number_end)) e
-unfolding table
-numbered-Has word endpoint i =
-    routes-new numbered_pattern Numbered number_end numbered_endpoints (with_routes plain_row plain_endpoints []) word endpoint numbered_words i
+row-Has row i =
+    let known = subst (λ list. In list (shown row)) (sym rows_are) (In-map shown rows row i) in
+    let r = of-map (λ row. read_as row.0.now row.1) PATTERNS (shown row) known in
+    routes-new (λ row. (row.0.now, row.1)) PATTERNS [] r.0 slash (row.front ++ end_of row.has_text) r.1 (ap (λ (x : Shown). x.0) r.2)
 
 -- ---- fronts of ASCII
 
-plain-front : (front end : List ℕ) → is_ascii_text front ≡ true → IsPlain end → IsPlain (front ++ end)
+plain-front : (front end : List ℕ) → list_all is_ascii front ≡ true → IsPlain end → IsPlain (front ++ end)
 plain-front [] end e h = h
 plain-front (x ∷ front) end e h =
-    let parts = and-parts (ltb x 128) (is_ascii_text front) e in
+    let parts = and_parts (is_ascii x) (list_all is_ascii front) e in
     let small = ltb-true x 128 parts.0 in
     (inr (omega arith), plain-front front end parts.1 h)
 
 -- a pattern takes a path with the same front
-takes-front : (front end rest : List ℕ) → is_ascii_text front ≡ true → takes end rest ≡ true → takes (front ++ end) (front ++ rest) ≡ true
+takes-front : (front end rest : List ℕ) → list_all is_ascii front ≡ true → takes end rest ≡ true → takes (front ++ end) (front ++ rest) ≡ true
 takes-front [] end rest e on = on
 takes-front (x ∷ front) end rest e on =
-    let parts = and-parts (ltb x 128) (is_ascii_text front) e in
+    let parts = and_parts (is_ascii x) (list_all is_ascii front) e in
     let small = ltb-true x 128 parts.0 in
     by (λ v. cond v (not (x == 47) && takes_on (front ++ end) (front ++ rest)) ((x == x) && takes (front ++ end) (front ++ rest)) ≡ true) (x == 256)
     (λ is. let big = eqb-true x 256 is in absurd (omega arith))
     (λ _. rw (eq-eqb x x refl) (takes-front front end rest parts.1 on))
 
 -- a pattern takes no path without its front
-past_front : (front end path : List ℕ) → is_ascii_text front ≡ true → takes (front ++ end) path ≡ true → (rest : List ℕ) × (path ≡ front ++ rest) × (takes end rest ≡ true)
+past_front : (front end path : List ℕ) → list_all is_ascii front ≡ true → takes (front ++ end) path ≡ true → (rest : List ℕ) × (path ≡ front ++ rest) × (takes end rest ≡ true)
 past_front [] end path e on = (path, refl, on)
 past_front (x ∷ front) end [] e on = absurd (true≢false (sym on))
 past_front (x ∷ front) end (b ∷ path) e on =
-    let low = and-parts (ltb x 128) (is_ascii_text front) e in
+    let low = and_parts (is_ascii x) (list_all is_ascii front) e in
     let small = ltb-true x 128 low.0 in
     by (λ v. cond v (not (b == 47) && takes_on (front ++ end) path) ((x == b) && takes (front ++ end) path) ≡ true
     → (rest : List ℕ) × (b ∷ path ≡ x ∷ (front ++ rest)) × (takes end rest ≡ true)) (x == 256)
     (λ is _. let big = eqb-true x 256 is in absurd (omega arith))
     (λ _ on.
-    let parts = and-parts (x == b) (takes (front ++ end) path) on in
+    let parts = and_parts (x == b) (takes (front ++ end) path) on in
     let r = past_front front end path low.1 parts.1 in
     let same = eqb-true x b parts.0 in
     (r.0, ap (λ y. y ∷ path) (sym same) ∙ ap (λ rest. x ∷ rest) r.1, r.2)) on
 
 -- ---- what `first` finds in the table
 
--- the target is of an endpoint of these: a slash, its word and what this end takes
-pub record IsOnRow {A : Type 0} (rows : RowsOf A) (end path : List ℕ) (endpoint : A) : Type 0 where
-  pub word : List ℕ
-  pub listed : Has rows word endpoint
+-- the target is one of this row: a slash, the front and what the end takes
+pub record IsOnRow (row : Row) (path : List ℕ) : Type 0 where
+  pub listed : In rows row
   pub rest : List ℕ
-  pub is : path ≡ slash ∷ (word ++ rest)
-  pub taken : takes end rest ≡ true
+  pub is : path ≡ slash ∷ (row.front ++ rest)
+  pub taken : takes (end_of row.has_text) rest ≡ true
 
--- the target is of the endpoint
-abbrev pub IsOn : List ℕ → Endpoint → Type 0
-IsOn path (Plain endpoint) = IsOnRow plain_endpoints [] path endpoint
-IsOn path (Numbered endpoint) = IsOnRow numbered_endpoints number_end path endpoint
+-- the target is one of a row that reads so
+abbrev pub IsOn : List ℕ → (List ℕ → Option Route) → Type 0
+IsOn path read = (row : Row) × IsOnRow row path × (row.read ≡ read)
 
-on_row : {A : Type 0} (pattern : List ℕ → List ℕ) (rows : RowsOf A) (word end path : List ℕ) (endpoint : A) → Has rows word endpoint → IsWord pattern end word
-    → takes (slash ∷ (word ++ end)) path ≡ true → IsOnRow rows end path endpoint
-on_row pattern rows word end path endpoint i fine on =
-    let r = past_front (slash ∷ word) end path fine.ascii on in
-    record { word = word; listed = i; rest = r.0; is = r.1; taken = r.2 }
-
-off_row : {A : Type 0} (pattern : List ℕ → List ℕ) (rows : RowsOf A) (end path : List ℕ) (endpoint : A) (row : IsOnRow rows end path endpoint) → IsWord pattern end row.word
-    → takes (slash ∷ (row.word ++ end)) path ≡ true
-off_row pattern rows end path endpoint row fine =
-    subst (λ p. takes (slash ∷ (row.word ++ end)) p ≡ true) (sym row.is) (takes-front (slash ∷ row.word) end row.rest fine.ascii row.taken)
+end_plain : (has_text : Bool) → IsPlain (end_of has_text)
+end_plain false = tt
+end_plain true = (inl (refl, tt), tt)
 
 table_plain : ArePlain table
 table_plain t e i =
-    elim (table-Has t e i) [
-      | inl row ↦ subst IsPlain (sym row.bytes) (plain-front (slash ∷ row.word) [] (plain_word row.word row.endpoint row.listed).ascii tt)
-      | inr row ↦ subst IsPlain (sym row.bytes) (plain-front (slash ∷ row.word) number_end (numbered_word row.word row.endpoint row.listed).ascii (inr (lit< tt), (inl (refl, tt), tt)))
-    ]
+    let r = table-Has t e i in
+    subst IsPlain r.2 (plain-front (slash ∷ r.0.front) (end_of r.0.has_text) (front_ascii r.0 r.1) (end_plain r.0.has_text))
 
-pub row_on : (t path : List ℕ) (e : RouteOf Endpoint) → Has table t e → takes t path ≡ true → IsOn path e.value
+row_on : (t path : List ℕ) (e : RouteOf Endpoint) → Has table t e → takes t path ≡ true → IsOn path (route_at e.value)
 row_on t path e i on =
-    elim (table-Has t e i) [
-      | inl row ↦ subst (IsOn path) row.is
-          (on_row plain_pattern plain_endpoints row.word [] path row.endpoint row.listed (plain_word row.word row.endpoint row.listed) (subst (λ t. takes t path ≡ true) row.bytes on))
-      | inr row ↦ subst (IsOn path) row.is
-          (on_row numbered_pattern numbered_endpoints row.word number_end path row.endpoint row.listed (numbered_word row.word row.endpoint row.listed)
-          (subst (λ t. takes t path ≡ true) row.bytes on))
-    ]
+    let r = table-Has t e i in
+    let past = past_front (slash ∷ r.0.front) (end_of r.0.has_text) path (front_ascii r.0 r.1) (subst (λ t. takes t path ≡ true) (sym r.2) on) in
+    (r.0, record { listed = r.1; rest = past.0; is = past.1; taken = past.2 }, r.3)
 
 bytes_are : (path : List ℕ) → ((i : ℕ) → Fits w8 (get_or path i 0)) → AreBytes path
 bytes_are [] h = tt
 bytes_are (b ∷ path) h = (let x = h 0 in omega arith, bytes_are path (λ i. h (suc i)))
 
-found_on : (path : List ℕ) (e : RouteOf Endpoint) → ((i : ℕ) → Fits w8 (get_or path i 0)) → first table path ≡ Some e → IsOn path e.value
+found_on : (path : List ℕ) (e : RouteOf Endpoint) → ((i : ℕ) → Fits w8 (get_or path i 0)) → first table path ≡ Some e → IsOn path (route_at e.value)
 found_on path e h is =
     let r = sound path 0 table e table_plain (bytes_are path h) (omega arith) is in
     row_on r.0 path e r.1 r.2
 
-none_at : (path t : List ℕ) (e : RouteOf Endpoint) → first table path ≡ None → Has table t e → takes t path ≡ true → ⊥
-none_at path t e is i on =
-    let r = complete path 0 table t e table_plain (omega arith) i on in
+none_on : (path : List ℕ) → first table path ≡ None → (row : Row) → IsOnRow row path → ⊥
+none_on path is row on =
+    let there = row-Has row on.listed in
+    let taken = subst (λ p. takes (pattern_of row) p ≡ true) (sym on.is) (takes-front (slash ∷ row.front) (end_of row.has_text) on.rest (front_ascii row on.listed) on.taken) in
+    let r = complete path 0 table (pattern_of row) there.0 table_plain (omega arith) there.1 taken in
     true≢false (sym (ap is_some r.1) ∙ ap is_some is)
 
-none_on : (path : List ℕ) → first table path ≡ None → (endpoint : Endpoint) → IsOn path endpoint → ⊥
-none_on path is (Plain endpoint) on =
-    let row = plain-Has on.word endpoint on.listed in
-    none_at path (slash ∷ (on.word ++ [])) row.0 is row.1 (off_row plain_pattern plain_endpoints [] path endpoint on (plain_word on.word endpoint on.listed))
-none_on path is (Numbered endpoint) on =
-    let row = numbered-Has on.word endpoint on.listed in
-    none_at path (slash ∷ (on.word ++ number_end)) row.0 is row.1 (off_row numbered_pattern numbered_endpoints number_end path endpoint on (numbered_word on.word endpoint on.listed))
-
 -- the same of a router that has just these rows, and of a text that is the target
-pub found_in : (rows : Table) (text path : List ℕ) (e : RouteOf Endpoint) → rows ≡ table → text ≡ path → ((i : ℕ) → Fits w8 (get_or path i 0)) → first rows text ≡ Some e → IsOn path e.value
+pub found_in : (rows : Table) (text path : List ℕ) (e : RouteOf Endpoint) → rows ≡ table → text ≡ path → ((i : ℕ) → Fits w8 (get_or path i 0)) → first rows text ≡ Some e
+    → IsOn path (route_at e.value)
 found_in rows text path e all same bytes is = found_on path e bytes (sym (ap (λ r. first r path) all) ∙ sym (ap (first rows) same) ∙ is)
 
-pub none_in : (rows : Table) (text path : List ℕ) → rows ≡ table → text ≡ path → first rows text ≡ None → (endpoint : Endpoint) → IsOn path endpoint → ⊥
+pub none_in : (rows : Table) (text path : List ℕ) → rows ≡ table → text ≡ path → first rows text ≡ None → (row : Row) → IsOnRow row path → ⊥
 none_in rows text path all same is = none_on path (sym (ap (λ r. first r path) all) ∙ sym (ap (first rows) same) ∙ is)

@@ -1,24 +1,21 @@
--- A session's progress: nothing yet, and one exchange more.
-use Rattle.std.proofs.Common.{◌≡◌, ◌∙◌, ◌+◌, ℕ, true, false, List, [], ◌∷◌, ◌++◌, refl, sym, ap, subst, append_assoc, append-nil, length-append, None, Ok, Err}
+-- A session's progress: nothing yet, more bytes, and one request more.
+use Rattle.std.proofs.Common.{◌≡◌, ◌∙◌, ◌+◌, ℕ, false, List, [], ◌∷◌, ◌++◌, refl, sym, ap, subst, append_assoc, append-nil, length-append, Result, Ok}
 use Rattle.std.specs.Prelude.{All}
 use Rattle.std.proofs.lemmas.List.Elements.{All-append, All-from_recursion}
-use Rattle.apron_base.specs.Ends.{Wrote}
+use Rattle.apron_base.specs.Ends.{SinkState, SourceState, Took, Wrote}
+use Rattle.apron_base.specs.declared.outside.Outcome.{Outcome}
 use Rattle.apron_base.proofs.Runs.{took_both, took_none, wrote_both, wrote_none}
 use Rattle.apron_rules.specs.declared.parts.AirportParts.{AirportParts}
 use Rattle.http_framing.specs.Closing.{is_closing}
-use Rattle.http_framing.specs.Requests.{Request}
+use Rattle.http_framing.specs.Requests.{HasRequest, Request}
 use Rattle.http_framing.specs.Streams.{IsOpen}
 use Rattle.http_framing.proofs.StreamLaws.{splits_more, splits_push}
-use Rattle.desk_http.specs.Answers.{Answered, sends, Sent, sent_text}
+use Rattle.desk_http.specs.Answers.{Sent, sent_text}
 use Rattle.desk_http.specs.Ports.{PortState}
+use Rattle.desk_http.specs.Replies.{IsAnswered}
 use Rattle.desk_http.specs.Runs.{Runs}
-use Rattle.desk_http.specs.Serving.{SoFar, TakesExchange, outcome_of}
+use Rattle.desk_http.specs.Serving.{SoFar}
 use Rattle.desk_http.specs.Session.{SessionState, texts_of}
-use Rattle.desk_http.specs.declared.answering.NoReplyCause.TheVariants.{Exhausted, Unread}
-use Rattle.desk_http.specs.declared.serving.Exchange.{Exchange}
-use Rattle.desk_http.specs.declared.serving.Exchange.TheVariants.{Request as Met, Refused, AtEnd, SourceFault}
-use Rattle.desk_http.specs.declared.serving.Unserved.TheVariants.{NoReply, SinkFault}
-use Rattle.http_framing.specs.declared.incoming.StreamEnd.TheVariants.{Ended as Between, Cut as Inside}
 
 -- one step more
 pub runs_push : {S R A : Type 0} (step : S → R → A → S → Type 0) (old mid new : S) (requests : List R) (answers : List A) (request : R) (answer : A)
@@ -36,7 +33,11 @@ texts_of-push airport (x ∷ sents) sent =
 stay_push : (requests : List Request) (request : Request) → All IsOpen requests → is_closing request.head ≡ false → All IsOpen (requests ++ request ∷ [])
 stay_push requests request h stays = All-append IsOpen requests (request ∷ []) h (All-from_recursion IsOpen (request ∷ []) (stays, tt))
 
-module _ (Comes : PortState → Request → Answered → PortState → Type 0) (airport : AirportParts) where
+-- a moment of a session
+abbrev pub at : SourceState → SinkState → PortState → SessionState
+at source sink port = record { source = source; sink = sink; port = port }
+
+module _ (Comes : PortState → Request → Result Sent Outcome → PortState → Type 0) (airport : AirportParts) where
   -- nothing yet
   pub begins : (now : SessionState) (rest : List ℕ) → rest ≡ [] → SoFar Comes airport now now rest 0
   begins now rest empty = record {
@@ -51,37 +52,34 @@ module _ (Comes : PortState → Request → Answered → PortState → Type 0) (
     counted = refl;
   }
 
-  -- one exchange that the session goes on after
-  pub goes_on : (before middle after : SessionState) (rest left : List ℕ) (count : ℕ) (met : Exchange)
-      → SoFar Comes airport before middle rest count → TakesExchange Comes airport middle after rest left met → outcome_of met ≡ None
-      → SoFar Comes airport before after left (count + 1)
-  goes_on before middle after rest left count (Met false (Ok done)) h t e =
-      let request = t.meets.0 in
-      let sent = t.meets.3.0 in record {
-        taken = h.taken ++ t.piece;
-        requests = h.requests ++ request ∷ [];
-        sents = h.sents ++ sent ∷ [];
-        took = took_both false false before.source middle.source after.source h.taken t.piece h.took t.took;
-        splits = splits_push (h.taken ++ t.piece) (rest ++ t.piece) left h.requests request (splits_more h.taken t.piece rest h.requests h.splits) t.meets.1;
-        stay = stay_push h.requests request h.stay (sym t.meets.2);
-        runs = runs_push (λ old r s new. Comes old r (sends s) new) before.port middle.port after.port h.requests h.sents request sent h.runs t.meets.3.1;
-        wrote = subst (Wrote false before.sink after.sink) (sym (texts_of-push airport h.sents sent))
-            (wrote_both false false before.sink middle.sink after.sink (texts_of airport h.sents) (sent_text airport sent) h.wrote t.meets.3.2);
-        counted = length-append h.requests (request ∷ []) ∙ ap (λ n. n + 1) h.counted;
-      }
-  goes_on before middle after rest left count (Met true (Ok done)) h t e = absurd (cc)
-  goes_on before middle after rest left count (Met closes (Err SinkFault)) h t e = absurd (cc)
-  goes_on before middle after rest left count (Met closes (Err (NoReply Exhausted))) h t e = absurd (cc)
-  goes_on before middle after rest left count (Met closes (Err (NoReply Unread))) h t e = absurd (cc)
-  goes_on before middle after rest left count (Refused (Ok done)) h t e = absurd (cc)
-  goes_on before middle after rest left count (Refused (Err failed)) h t e = absurd (cc)
-  goes_on before middle after rest left count (AtEnd Between) h t e = absurd (cc)
-  goes_on before middle after rest left count (AtEnd Inside) h t e = absurd (cc)
-  goes_on before middle after rest left count SourceFault h t e = absurd (cc)
+  -- a piece more was taken
+  pub takes_piece : (before now : SessionState) (more : SourceState) (rest piece : List ℕ) (count : ℕ)
+      → SoFar Comes airport before now rest count → Took false now.source more piece → SoFar Comes airport before (at more now.sink now.port) (rest ++ piece) count
+  takes_piece before now more rest piece count h took = record {
+    taken = h.taken ++ piece;
+    requests = h.requests;
+    sents = h.sents;
+    took = took_both false false before.source now.source more h.taken piece h.took took;
+    splits = splits_more h.taken piece rest h.requests h.splits;
+    stay = h.stay;
+    runs = h.runs;
+    wrote = h.wrote;
+    counted = h.counted;
+  }
 
--- an exchange at what is fixed and an airport, by their other names
-pub exchange_at : {Fixed : Type 0} (comes : Fixed → AirportParts → PortState → Request → Answered → PortState → Type 0) (fixed at : Fixed) (there here : AirportParts) (before after : SessionState) (bytes left : List ℕ)
-    (met : Exchange) → fixed ≡ at → there ≡ here → TakesExchange (comes fixed there) there before after bytes left met → TakesExchange (comes at here) here before after bytes left met
-exchange_at comes fixed at there here before after bytes left met same_fixed same t =
-    subst (λ airport. TakesExchange (comes at airport) airport before after bytes left met) same
-    (subst (λ p. TakesExchange (comes p there) there before after bytes left met) same_fixed t)
+  -- one request more was answered, and leaves the session open
+  pub goes_on : (before now : SessionState) (told : SinkState) (next : PortState) (rest left : List ℕ) (count : ℕ) (request : Request)
+      → SoFar Comes airport before now rest count → HasRequest rest request left → is_closing request.head ≡ false
+      → IsAnswered airport (Comes now.port request) now.sink told (Ok tt) next → SoFar Comes airport before (at now.source told next) left (count + 1)
+  goes_on before now told next rest left count request h first stays (sent, came, wrote) = record {
+    taken = h.taken;
+    requests = h.requests ++ request ∷ [];
+    sents = h.sents ++ sent ∷ [];
+    took = h.took;
+    splits = splits_push h.taken rest left h.requests request h.splits first;
+    stay = stay_push h.requests request h.stay stays;
+    runs = runs_push (λ old r s new. Comes old r (Ok s) new) before.port now.port next h.requests h.sents request sent h.runs came;
+    wrote = subst (Wrote false before.sink told) (sym (texts_of-push airport h.sents sent))
+        (wrote_both false false before.sink now.sink told (texts_of airport h.sents) (sent_text airport sent) h.wrote wrote);
+    counted = length-append h.requests (request ∷ []) ∙ ap (λ n. n + 1) h.counted;
+  }

@@ -24,10 +24,14 @@ abbrev mutual
   takes_on (x ∷ pattern) [] = false
   takes_on (x ∷ pattern) (b ∷ path) = if b == 47 then (x == 47) && takes pattern path else takes_on (x ∷ pattern) path
 
+-- this is in the list
+abbrev pub In : {A : Type 0} → List A → A → Type 0
+In [] item = ⊥
+In (first ∷ rest) item = (first ≡ item) ⊎ In rest item
+
 -- the row of this pattern and value is among the rows
 abbrev pub Has : {K : Type 0} → RowsOf K → List ℕ → K → Type 0
-Has [] t k = ⊥
-Has (row ∷ rest) t k = (row ≡ (t, k)) ⊎ Has rest t k
+Has rows t k = In rows (t, k)
 
 -- a slash comes next, or the end
 abbrev pub SlashNext : List ℕ → Type 0

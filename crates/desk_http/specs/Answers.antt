@@ -1,5 +1,7 @@
 -- What comes of a request.
 use Rattle.std.specs.Prelude.{◌≡◌, ℕ, List, Result, Ok, Err}
+use Rattle.apron_base.specs.declared.outside.Outcome.{Outcome}
+use Rattle.apron_base.specs.declared.outside.Outcome.TheVariants.{Spent, Memory}
 use Rattle.apron_rules.specs.declared.parts.AirportParts.{AirportParts}
 use Rattle.http_framing.specs.Requests.{Request}
 use Rattle.desk_words.specs.Early.{early_text}
@@ -23,13 +25,6 @@ sent_text airport (at_once reply) = early_text reply
 sent_text airport (given answer) = given_text airport answer
 sent_text airport (fed feed) = feed_given_text feed
 
--- what comes of a request: this is sent, or it found the port's numbers exhausted, or no memory was
--- there to read it
-pub data Answered : Type 0 where
-  sends : Sent → Answered
-  exhausted : Answered
-  unread : Answered
-
 -- the body of the request is read as JSON, which takes memory
 abbrev pub TakesMemory : Request → Type 0
 TakesMemory request = ReadsBody (said_in request)
@@ -37,21 +32,17 @@ TakesMemory request = ReadsBody (said_in request)
 -- `asks` says what a port of the airport gives for an ask and what it becomes
 module _ (asks : AirportParts → PortState → Ask → Given → PortState → Type 0)
     (airport : AirportParts) where
-  -- what is sent for what is asked, and the port after it
-  abbrev pub SendsFor : PortState → Result Ask EarlyReply → Sent → PortState → Type 0
-  SendsFor before (Err reply) (at_once sent) after = (sent ≡ reply) × (after ≡ before)
-  SendsFor before (Ok ask) (given answer) after = asks airport before ask answer after
-  SendsFor before asked sent after = ⊥
+  -- what comes of what is asked, and the port after it: this is sent, or the session ends so, as
+  -- it does if the port's numbers have run out
+  abbrev pub AnswersTo : PortState → Result Ask EarlyReply → Result Sent Outcome → PortState → Type 0
+  AnswersTo before (Err reply) (Ok (at_once sent)) after = (sent ≡ reply) × (after ≡ before)
+  AnswersTo before (Ok ask) (Ok (given answer)) after = asks airport before ask answer after
+  AnswersTo before (Ok ask) (Err Spent) after = IsExhausted before after
+  AnswersTo before asked came after = ⊥
 
-  -- what is asked found the port's numbers exhausted
-  abbrev pub FindsExhausted : PortState → Result Ask EarlyReply → PortState → Type 0
-  FindsExhausted before (Err reply) after = ⊥
-  FindsExhausted before (Ok ask) after = IsExhausted before after
-
-  -- what comes of a request, and the port after it
-  abbrev pub Answers : PortState → Request → Answered → PortState → Type 0
-  Answers before request (sends sent) after =
-      SendsFor before (ask_of_request airport request) sent after
-  Answers before request exhausted after =
-      FindsExhausted before (ask_of_request airport request) after
-  Answers before request unread after = TakesMemory request × (after ≡ before)
+  -- what comes of a request, and the port after it; the session ends too if no memory is there to
+  -- read the request
+  abbrev pub Answers : PortState → Request → Result Sent Outcome → PortState → Type 0
+  Answers before request (Err Memory) after = TakesMemory request × (after ≡ before)
+  Answers before request came after =
+      AnswersTo before (ask_of_request airport request) came after

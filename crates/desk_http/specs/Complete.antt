@@ -1,6 +1,6 @@
 -- Completeness: a session that nothing hinders answers all requests of its input, up to a million,
 -- and comes to its end.
-use Rattle.std.specs.Prelude.{◌≡◌, All, ℕ, false, List, [], ◌++◌, length, take, Some}
+use Rattle.std.specs.Prelude.{◌≡◌, All, ℕ, false, List, [], ◌++◌, length, take, Some, Result, Ok}
 use Rattle.apron_base.specs.Counts.{Rose}
 use Rattle.apron_base.specs.Ends.{Wrote}
 use Rattle.apron_base.specs.declared.outside.Outcome.{Outcome}
@@ -11,7 +11,7 @@ use Rattle.http_framing.specs.Requests.{Request}
 use Rattle.http_framing.specs.Streams.{Ending, ended, cut, closed, malformed, IsOpen, Requests}
 use Rattle.desk_asks.specs.declared.asks.Ask.{Ask}
 use Rattle.history_core.specs.Answer.{Given}
-use Rattle.desk_http.specs.Answers.{Answered, Answers, Sent, sends}
+use Rattle.desk_http.specs.Answers.{Answers, Sent}
 use Rattle.desk_http.specs.Ports.{PortState}
 use Rattle.desk_http.specs.Runs.{Runs}
 use Rattle.desk_http.specs.Session.{SessionState, SessionOf, most_requests, refusal_text, texts_of}
@@ -38,7 +38,7 @@ ComesToEnd Limit input requests last =
 ComesToEnd outcome input requests last = ⊥
 
 -- `Comes` says what comes of a request and what the port becomes
-module _ (Comes : PortState → Request → Answered → PortState → Type 0)
+module _ (Comes : PortState → Request → Result Sent Outcome → PortState → Type 0)
     (airport : AirportParts) where
   -- The requests of the input were answered one after another, each that has fewer than a million
   -- before it, by what came of it at its place. Their replies were written whole.
@@ -50,7 +50,7 @@ module _ (Comes : PortState → Request → Answered → PortState → Type 0)
     pub each : (listed : List Request) (ending : Ending)
         → Requests input listed ending
         → requests ≡ take most_requests listed
-    pub runs : Runs (λ old request sent new. Comes old request (sends sent) new) before.port
+    pub runs : Runs (λ old request sent new. Comes old request (Ok sent) new) before.port
         requests sents after.port
     pub ends : ComesToEnd outcome input requests last
     pub wrote : Wrote false before.sink after.sink (texts_of airport sents ++ last)

@@ -1,5 +1,5 @@
 -- What GET /plan/DAY, GET /chart/DAY and GET /day/DAY ask.
-use Rattle.std.specs.Prelude.{ℕ, Bool, nat_le, not, ◌&&◌, Result, Ok, Err}
+use Rattle.std.specs.Prelude.{ℕ, Bool, nat_le, not, ◌&&◌, Result, Ok}
 use Rattle.apron_base.specs.ResultChain.{◌>>=◌, refuse_if}
 use Rattle.apron_rules.specs.declared.parts.AirportParts.{AirportParts}
 use Rattle.desk_asks.specs.declared.asks.What.{What}

@@ -20,10 +20,8 @@ use Rattle.desk_http.specs.MessagesRoute.{message_asked}
 use Rattle.desk_http.specs.ReportsRoute.{cancel_asked, report_asked}
 use Rattle.desk_http.specs.VisitsRoute.{visit_added}
 use Rattle.desk_http.specs.Targets.{route_of}
-use Rattle.desk_http.specs.declared.targets.NumberedEndpoint.TheVariants.{Visit, Entry, Plan, Chart, Day}
-use Rattle.desk_http.specs.declared.targets.PlainEndpoint.TheVariants.{Visits, Commits, Mvt, Reports, Cancels, Version, Unplaced, Airport}
 use Rattle.desk_http.specs.declared.targets.Route.{Route}
-use Rattle.desk_http.specs.declared.targets.Route.TheVariants.{Plain, Numbered}
+use Rattle.desk_http.specs.declared.targets.Route.TheVariants.{Visits, Commits, Mvt, Reports, Cancels, Version, Unplaced, Airport, Visit, Entry, Plan, Chart, Day}
 
 -- what is done with the body of a request: it is passed over, or read as a text or as JSON
 pub data BodyKind : Type 0 where
@@ -33,15 +31,12 @@ pub data BodyKind : Type 0 where
 
 -- what is done with the body of the requests of a route
 abbrev pub body_of : Route → BodyKind
-body_of (Plain Visits) = json
-body_of (Plain Commits) = json
-body_of (Plain Mvt) = text
-body_of (Plain Reports) = json
-body_of (Plain Cancels) = json
-body_of (Plain Version) = passed_over
-body_of (Plain Unplaced) = passed_over
-body_of (Plain Airport) = passed_over
-body_of (Numbered endpoint number) = passed_over
+body_of Visits = json
+body_of Commits = json
+body_of Mvt = text
+body_of Reports = json
+body_of Cancels = json
+body_of route = passed_over
 
 -- whether a body is read
 abbrev pub is_read : BodyKind → Bool
@@ -69,8 +64,8 @@ seen_version Wrong = None
 
 -- the desk of a request of this route that told this desk: `-` if the route passes the field over
 abbrev pub desk_for : Route → Option (List ℕ) → Option (List ℕ)
-desk_for (Plain Mvt) desk = desk
-desk_for (Plain Reports) desk = desk
+desk_for Mvt desk = desk
+desk_for Reports desk = desk
 desk_for route desk = Some no_desk
 
 -- what is looked at for what a request asks; a version or a desk that was not told as it has to be
@@ -110,19 +105,19 @@ pub record ReadsBody (said : Said) : Type 0 where
 
 -- what a desk asks of a route with this body: a day has no body, and its number is looked at
 abbrev pub what_asked : AirportParts → Route → List ℕ → List ℕ → Result What EarlyReply
-what_asked airport (Plain Visits) desk body = visit_added airport body
-what_asked airport (Plain Commits) desk body = commit_asked airport body
-what_asked airport (Plain Mvt) desk body = message_asked desk body
-what_asked airport (Plain Reports) desk body = report_asked airport desk body
-what_asked airport (Plain Cancels) desk body = cancel_asked body
-what_asked airport (Plain Version) desk body = Ok what.Version
-what_asked airport (Plain Unplaced) desk body = Ok what.Unplaced
-what_asked airport (Plain Airport) desk body = Ok what.Airport
-what_asked airport (Numbered Visit number) desk body = Ok (what.Visit number)
-what_asked airport (Numbered Entry number) desk body = Ok (what.Entry number)
-what_asked airport (Numbered Plan day) desk body = day_asked airport day (what.Plan day)
-what_asked airport (Numbered Chart day) desk body = day_asked airport day (what.Chart day)
-what_asked airport (Numbered Day day) desk body = day_asked airport day (what.Day day)
+what_asked airport Visits desk body = visit_added airport body
+what_asked airport Commits desk body = commit_asked airport body
+what_asked airport Mvt desk body = message_asked desk body
+what_asked airport Reports desk body = report_asked airport desk body
+what_asked airport Cancels desk body = cancel_asked body
+what_asked airport Version desk body = Ok what.Version
+what_asked airport Unplaced desk body = Ok what.Unplaced
+what_asked airport Airport desk body = Ok what.Airport
+what_asked airport (Visit number) desk body = Ok (what.Visit number)
+what_asked airport (Entry number) desk body = Ok (what.Entry number)
+what_asked airport (Plan day) desk body = day_asked airport day (what.Plan day)
+what_asked airport (Chart day) desk body = day_asked airport day (what.Chart day)
+what_asked airport (Day day) desk body = day_asked airport day (what.Day day)
 
 -- what is asked, or the first reply that is fixed: by the target and the method, then by the
 -- version that the desk says it has seen, then by the desk's name, then by the day or the body

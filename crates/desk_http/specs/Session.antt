@@ -1,5 +1,5 @@
 -- One session: the requests at the front of the bytes taken, and for each what was sent.
-use Rattle.std.specs.Prelude.{◌≡◌, ◌⊎◌, ◌<◌, All, ℕ, Bool, true, false, List, [], ◌++◌, length, take, Option}
+use Rattle.std.specs.Prelude.{◌≡◌, ◌⊎◌, ◌<◌, All, ℕ, Bool, true, false, List, [], ◌++◌, length, take, Option, Result, Ok, Err}
 use Rattle.std.specs.List.{flat_map}
 use Rattle.std.specs.Io.KnownBytes.{IsAtEnd}
 use Rattle.apron_base.specs.Ends.{SinkState, SourceState, Took, Wrote}
@@ -14,7 +14,7 @@ use Rattle.http_framing.specs.Streams.{EndsStream, ended, cut, Splits, IsOpen}
 use Rattle.desk_asks.specs.declared.asks.Ask.{Ask}
 use Rattle.desk_words.specs.Fixed.{bad_encoding_text, bad_head_text, large_body_text, no_length_text}
 use Rattle.history_core.specs.Answer.{Given}
-use Rattle.desk_http.specs.Answers.{Answered, sends, exhausted, unread, Answers, Sent, sent_text}
+use Rattle.desk_http.specs.Answers.{Answers, Sent, sent_text}
 use Rattle.desk_http.specs.Ports.{PortState}
 use Rattle.desk_http.specs.Runs.{Runs}
 
@@ -101,25 +101,25 @@ abbrev pub no_progress : Progress
 no_progress = record { requests = []; sents = []; rest = [] }
 
 -- `Comes` says what comes of a request and what the port becomes
-module _ (Comes : PortState → Request → Answered → PortState → Type 0) where
+module _ (Comes : PortState → Request → Result Sent Outcome → PortState → Type 0) where
   -- the request is at the front of the bytes, and this came of it
-  pub record ComesFirst (bytes : List ℕ) (request : Request) (answered : Answered)
+  pub record ComesFirst (bytes : List ℕ) (request : Request) (came : Result Sent Outcome)
       (before after : PortState) : Type 0 where
     pub behind : List ℕ
     pub first : HasRequest bytes request behind
-    pub comes : Comes before request answered after
+    pub comes : Comes before request came after
 
   -- why a session ends, by the request at the front of the bytes that are left, or with its port as
   -- it was
   abbrev pub EndsSession : Outcome → List ℕ → Last → PortState → PortState → Type 0
   EndsSession Closed rest (reply request sent) before after = (is_closing request.head ≡ true)
-      × ComesFirst rest request (sends sent) before after
+      × ComesFirst rest request (Ok sent) before after
   EndsSession WriteFault rest (reply request sent) before after =
-      ComesFirst rest request (sends sent) before after
+      ComesFirst rest request (Ok sent) before after
   EndsSession Spent rest nothing before after = (request : Request)
-      × ComesFirst rest request exhausted before after
+      × ComesFirst rest request (Err Spent) before after
   EndsSession Memory rest nothing before after = (request : Request)
-      × ComesFirst rest request unread before after
+      × ComesFirst rest request (Err Memory) before after
   EndsSession outcome rest last before after = StopsSession outcome rest last × (after ≡ before)
 
   -- the same, or memory ran out before anything was read
@@ -140,7 +140,7 @@ module _ (Comes : PortState → Request → Answered → PortState → Type 0) w
     pub took : Took (is_read_fault outcome) before.source after.source taken
     pub splits : Splits taken done.requests done.rest
     pub stay : All IsOpen done.requests
-    pub runs : Runs (λ old request sent new. Comes old request (sends sent) new) before.port
+    pub runs : Runs (λ old request sent new. Comes old request (Ok sent) new) before.port
         done.requests done.sents served
     pub ends : EndsAfter outcome done last served after.port
     pub read : IsReadToEnd outcome after.source.left
@@ -160,7 +160,7 @@ SessionOf asks airport before after outcome =
 -- port becomes
 pub record SessionKind : Type 1 where
   pub airport : AirportParts
-  pub comes : PortState → Request → Answered → PortState → Type 0
+  pub comes : PortState → Request → Result Sent Outcome → PortState → Type 0
 
 -- a session of this kind
 abbrev pub SessionOfKind : SessionKind → SessionState → SessionState → Outcome → Type 0

@@ -1,26 +1,17 @@
--- The router's patterns of a desk's endpoints.
-use Rattle.std.specs.Prelude.{ℕ, ◌==◌, ◌++◌, ◌+◌, List, [], ◌∷◌, codes, drop, position, Option, Some, None, Result, Ok, Err, option_map}
-use Rattle.std.specs.Option.{option_and_then}
+-- The router's rows, and the route of a target that one of them takes.
+use Rattle.std.specs.Prelude.{ℕ, ◌==◌, ◌+◌, List, [], ◌∷◌, drop, position, Option, Some, Result, Ok, Err, option_map}
+use Rattle.std.specs.Option.{option_map_or}
 use Rattle.matchit.specs.Rows.{RowsOf}
 use Rattle.matchit.specs.Order.{placed}
 use Rattle.matchit.specs.Route.{Scan, parse_route}
 use Rattle.matchit.specs.Router.{RouteOf, route_from}
 use Rattle.matchit.specs.declared.error.InsertError.{InsertError}
-use Rattle.desk_http.specs.Targets.{numbered_endpoints, plain_endpoints, plain_number, slash}
+use Rattle.desk_http.specs.Targets.{plain_number, slash}
+use Rattle.desk_http.specs.declared.targets.TheConstants.{PATTERNS}
 use Rattle.desk_http.specs.declared.targets.Endpoint.{Endpoint}
-use Rattle.desk_http.specs.declared.targets.Endpoint.TheVariants.{Plain, Numbered}
-use Rattle.desk_http.specs.declared.targets.NumberedEndpoint.{NumberedEndpoint}
-use Rattle.desk_http.specs.declared.targets.PlainEndpoint.{PlainEndpoint}
+use Rattle.desk_http.specs.declared.targets.Endpoint.TheVariants.{Visits, Commits, Mvt, Reports, Cancels, Version, Unplaced, Airport, Visit, Entry, Plan, Chart, Day}
 use Rattle.desk_http.specs.declared.targets.Route.{Route}
 use Rattle.desk_http.specs.declared.targets.Route.TheVariants as route
-
--- an endpoint with the router's pattern of its targets: a slash and a word
-abbrev pub plain_row : List ℕ × PlainEndpoint → List ℕ × Endpoint
-plain_row (word, endpoint) = (slash ∷ word, Plain endpoint)
-
--- an endpoint with the router's pattern of its targets: a slash, a word, a slash and a number
-abbrev pub numbered_row : List ℕ × NumberedEndpoint → List ℕ × Endpoint
-numbered_row (word, endpoint) = (slash ∷ (word ++ codes "/{n}"), Numbered endpoint)
 
 -- the rows of the router
 abbrev pub Table : Type 0
@@ -43,17 +34,26 @@ with_routes row (first ∷ rest) table =
 
 -- all rows
 unfoldable pub table : Table
-table = with_routes numbered_row numbered_endpoints (with_routes plain_row plain_endpoints [])
+table = with_routes (λ row. (row.0.now, row.1)) PATTERNS []
 
--- the number after the second slash of a target that begins with a slash
-abbrev pub number_after_word : List ℕ → Option ℕ
-number_after_word [] = None
-number_after_word (byte ∷ rest) =
-    option_and_then (λ end. plain_number (drop (end + 1) rest))
-    (position (λ byte. byte == slash) rest)
+-- the text after the second slash of a target that begins with a slash; empty if there is none
+abbrev pub text_after_word : List ℕ → List ℕ
+text_after_word [] = []
+text_after_word (byte ∷ rest) =
+    option_map_or (λ end. drop (end + 1) rest) (position (λ byte. byte == slash) rest) []
 
--- the route of a target of this endpoint; none if its number is none
+-- the route of an endpoint's target with this text after its word
 abbrev pub route_at : Endpoint → List ℕ → Option Route
-route_at (Plain endpoint) target = Some (route.Plain endpoint)
-route_at (Numbered endpoint) target =
-    option_map (route.Numbered endpoint) (number_after_word target)
+route_at Visits text = Some route.Visits
+route_at Commits text = Some route.Commits
+route_at Mvt text = Some route.Mvt
+route_at Reports text = Some route.Reports
+route_at Cancels text = Some route.Cancels
+route_at Version text = Some route.Version
+route_at Unplaced text = Some route.Unplaced
+route_at Airport text = Some route.Airport
+route_at Visit text = option_map route.Visit (plain_number text)
+route_at Entry text = option_map route.Entry (plain_number text)
+route_at Plan text = option_map route.Plan (plain_number text)
+route_at Chart text = option_map route.Chart (plain_number text)
+route_at Day text = option_map route.Day (plain_number text)

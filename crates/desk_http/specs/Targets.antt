@@ -4,16 +4,16 @@ use Rattle.std.specs.Option.{option_and_then}
 use Rattle.std.specs.Str.{bytes_eq}
 use Rattle.apron_base.specs.Digits.{most_digits, number_of}
 use Rattle.desk_http.specs.Numbers.{within_32_bits}
-use Rattle.desk_http.specs.declared.targets.NumberedEndpoint.{NumberedEndpoint}
-use Rattle.desk_http.specs.declared.targets.NumberedEndpoint.TheVariants.{Visit, Entry, Plan, Chart, Day}
-use Rattle.desk_http.specs.declared.targets.PlainEndpoint.{PlainEndpoint}
-use Rattle.desk_http.specs.declared.targets.PlainEndpoint.TheVariants.{Visits, Commits, Mvt, Reports, Cancels, Version, Unplaced, Airport}
 use Rattle.desk_http.specs.declared.targets.Route.{Route}
-use Rattle.desk_http.specs.declared.targets.Route.TheVariants.{Plain, Numbered}
+use Rattle.desk_http.specs.declared.targets.Route.TheVariants.{Visits, Commits, Mvt, Reports, Cancels, Version, Unplaced, Airport, Visit, Entry, Plan, Chart, Day}
 
--- the endpoints that a word alone names, each with its word
-abbrev pub plain_endpoints : List (List ℕ × PlainEndpoint)
-plain_endpoints =
+-- how a text after a word names a route: by a number
+pub data Parameter : Type 0 where
+  numbered : (ℕ → Route) → Parameter
+
+-- the routes that a word alone names, each with its word
+abbrev pub routes_of_words : List (List ℕ × Route)
+routes_of_words =
     (codes "visits", Visits)
     ∷ (codes "commits", Commits)
     ∷ (codes "mvt", Mvt)
@@ -24,21 +24,20 @@ plain_endpoints =
     ∷ (codes "airport", Airport)
     ∷ []
 
--- the endpoints that a word and a number name, each with its word
-abbrev pub numbered_endpoints : List (List ℕ × NumberedEndpoint)
-numbered_endpoints =
-    (codes "visits", Visit)
-    ∷ (codes "entries", Entry)
-    ∷ (codes "plan", Plan)
-    ∷ (codes "chart", Chart)
-    ∷ (codes "day", Day)
+-- the routes that a word and a text after it name, each with its word
+abbrev pub routes_with_text : List (List ℕ × Parameter)
+routes_with_text =
+    (codes "visits", numbered Visit)
+    ∷ (codes "entries", numbered Entry)
+    ∷ (codes "plan", numbered Plan)
+    ∷ (codes "chart", numbered Chart)
+    ∷ (codes "day", numbered Day)
     ∷ []
 
--- the endpoint of this word
-abbrev pub endpoint_of : {Endpoint : Type 0} → List ℕ → List (List ℕ × Endpoint) → Option Endpoint
-endpoint_of word [] = None
-endpoint_of word ((name, endpoint) ∷ endpoints) =
-    if bytes_eq word name then Some endpoint else endpoint_of word endpoints
+-- what stands at this word
+abbrev pub look_up : {A : Type 0} → List ℕ → List (List ℕ × A) → Option A
+look_up word [] = None
+look_up word ((name, value) ∷ rows) = if bytes_eq word name then Some value else look_up word rows
 
 -- the bytes up to the next slash are put before the pieces behind it
 abbrev pub onto_first : ℕ → List (List ℕ) → List (List ℕ)
@@ -66,21 +65,16 @@ plain_number (digit ∷ digits) =
     if digit == zero_digit then None
     else option_and_then within_32_bits (number_of (digit ∷ digits) most_digits)
 
--- the route that a word alone names
-abbrev pub word_route : List ℕ → Option Route
-word_route word = option_map Plain (endpoint_of word plain_endpoints)
-
--- the route that a word and a number after it name
-abbrev pub number_route : List ℕ → ℕ → Option Route
-number_route word number =
-    option_map (λ endpoint. Numbered endpoint number) (endpoint_of word numbered_endpoints)
+-- the route that this text names
+abbrev pub route_with : List ℕ → Parameter → Option Route
+route_with text (numbered route) = option_map route (plain_number text)
 
 -- the route that the pieces of a target name: a slash and a word, or a slash, a word, a slash and
--- a number
+-- a text
 abbrev pub route_of_pieces : List (List ℕ) → Option Route
-route_of_pieces ([] ∷ word ∷ []) = word_route word
-route_of_pieces ([] ∷ word ∷ number ∷ []) =
-    option_and_then (number_route word) (plain_number number)
+route_of_pieces ([] ∷ word ∷ []) = look_up word routes_of_words
+route_of_pieces ([] ∷ word ∷ text ∷ []) =
+    option_and_then (route_with text) (look_up word routes_with_text)
 route_of_pieces _ = None
 
 -- the route that a target names

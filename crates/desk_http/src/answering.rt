@@ -1,78 +1,47 @@
 // The answer to one request.
 ghost use Rattle.std.specs.Prelude.{◌≡◌};
-ghost use Rattle.apron_base.specs.Ends.{Puts};
-ghost use Rattle.history_core.specs.History.{IsAskOf};
-ghost use Rattle.desk_http.specs.Replies.{IsReply, reply_bytes};
+ghost use Rattle.desk_words.specs.Early.{early_text};
+ghost use Rattle.desk_http.specs.Replies.{Writes, WritesActed};
 
 use crate::DeskPort;
 use crate::routes::{Unasked, asked_by};
 use crate::targets::DeskRoutes;
-use apron_base::{Acted, Failed, Listed, Sink};
-use desk_asks::Ask;
+use apron_base::{Acted, Failed, Outcome, Sink};
 use desk_words::early::{EarlyReply, early_bytes};
 use desk_words::fixed;
 use http_framing::RequestParts;
 use std::alloc::Global;
 
-/// What is kept of a reply until it is written.
-#[derive(Debug, Drop)]
-pub(crate) enum PreparedReply {
-    /// What the plan gave.
-    Plan(Listed<u8>),
-    /// What was fixed before the plan was consulted, whose text takes no memory.
-    Early(EarlyReply),
-    /// A constant.
-    Fixed(&'static [u8]),
-}
-
-/// Why no reply is sent for a request.
-#[derive(Clone, Copy, Debug, PartialEq, Eq)]
-pub(crate) enum NoReplyCause {
-    /// The port's call numbers are exhausted.
-    Exhausted,
-    /// No memory to read the request; it asked nothing.
-    Unread,
-}
-
-impl PreparedReply {
-    /// Writes the reply's text.
-    pub(crate) fn put<W: Sink>(&self, sink: &mut W) -> Result<(), Failed>
-        ensures puts { Puts (W.state sink.old) (W.state sink.new) result (reply_bytes self.now) }
-    {
-        match self {
-            PreparedReply::Plan(text) => sink.put(text.as_slice()),
-            PreparedReply::Early(early) => sink.put(early_bytes(*early).as_slice()),
-            PreparedReply::Fixed(text) => sink.put(text),
-        }
-    }
-}
-
 /// What answers the requests of a session over a port.
 pub(crate) trait Answerer<P: DeskPort> {
+    ghost use Rattle.std.specs.Prelude.{Result};
+    ghost use Rattle.apron_base.specs.declared.outside.Outcome.{Outcome};
     ghost use Rattle.apron_rules.specs.declared.parts.AirportParts.{AirportParts};
     ghost use Rattle.http_framing.specs.Requests.{Request};
     ghost use Rattle.http_framing.specs.Fronts.{ArePartsOf};
-    ghost use Rattle.desk_http.specs.Answers.{Answered};
+    ghost use Rattle.desk_http.specs.Answers.{Sent};
     ghost use Rattle.desk_http.specs.Ports.{PortState};
-    ghost use Rattle.desk_http.specs.Replies.{IsAnswer};
+    ghost use Rattle.desk_http.specs.Replies.{IsAnswered};
 
     /// What comes of a request at what is fixed of the port and the airport, and what it becomes.
-    ghost comes: { P.Fixed → AirportParts → PortState → Request → Answered → PortState → Type 0 };
+    ghost comes: { P.Fixed → AirportParts → PortState → Request → Result Sent Outcome → PortState
+        → Type 0 };
 
-    /// Answers the request with these parts.
-    fn answer(
+    /// Answers the request with these parts. `Err` says how the session ends.
+    fn answer<W: Sink>(
         &self,
         alloc: Global,
         port: &mut P,
+        sink: &mut W,
         parts: &RequestParts<'_>,
-    ) -> Result<PreparedReply, NoReplyCause>
+    ) -> Result<(), Outcome>
         ensures airport { P.airport_of port.new ≡ P.airport_of port.old }
         ensures fixed { P.fixed port.new ≡ P.fixed port.old }
         ensures came { (request : Request)
             → ArePartsOf request parts.now
-            → IsAnswer (P.airport_of port.old)
-            (comes (P.fixed port.old) (P.airport_of port.old) (P.port port.old) request) result
-            (P.port port.new) };
+            → IsAnswered (P.airport_of port.old)
+            (comes (P.fixed port.old) (P.airport_of port.old) (P.port port.old) request)
+            (W.state sink.old) (W.state sink.new) result (P.port port.new) };
 }
 
 impl<P: DeskPort> Answerer<P> for DeskRoutes {
@@ -80,32 +49,47 @@ impl<P: DeskPort> Answerer<P> for DeskRoutes {
 
     ghost comes = { λ fixed. Answers P.asks };
 
-    fn answer(
+    fn answer<W: Sink>(
         &self,
         alloc: Global,
         port: &mut P,
+        sink: &mut W,
         parts: &RequestParts<'_>,
-    ) -> Result<PreparedReply, NoReplyCause> {
+    ) -> Result<(), Outcome> {
         match asked_by(alloc, self, port.airport(), parts) {
-            Ok(ask) => answer_ask(alloc, port, &ask).ok_or(NoReplyCause::Exhausted),
-            Err(Unasked::AtOnce(early)) => Ok(PreparedReply::Early(early)),
-            Err(Unasked::Memory) => Err(NoReplyCause::Unread),
+            Ok(ask) => write_acted(sink, port.ask(alloc, &ask)),
+            Err(Unasked::AtOnce(early)) => write_early(sink, early),
+            Err(Unasked::Memory) => Err(Outcome::Memory),
         }
     }
 }
 
-// The reply to an ask; none if the port's call numbers have run out.
-fn answer_ask<P: DeskPort>(alloc: Global, port: &mut P, ask: &Ask) -> Option<PreparedReply>
-    requires valid { IsAskOf (P.airport_of port.old) ask.now }
-    ensures airport { P.airport_of port.new ≡ P.airport_of port.old }
-    ensures fixed { P.fixed port.new ≡ P.fixed port.old }
-    ensures came { IsReply P.asks (P.airport_of port.old) (P.port port.old) ask.now
-        result (P.port port.new) }
+/// Writes the reply of an act, if the port's call numbers have not run out. All other replies than
+/// the plan's are constants, which take no memory.
+pub(crate) fn write_acted<W: Sink>(sink: &mut W, acted: Acted) -> Result<(), Outcome>
+    ensures writes { WritesActed acted (W.state sink.old) (W.state sink.new) result }
 {
-    match port.ask(alloc, ask) {
-        Acted::Reply(bytes) => Some(PreparedReply::Plan(bytes)),
-        Acted::Memory => Some(PreparedReply::Fixed(fixed::no_memory())),
-        Acted::Fault => Some(PreparedReply::Fixed(fixed::keeper_fault())),
-        Acted::Spent => None,
+    match acted {
+        Acted::Reply(text) => write(sink, text.as_slice()),
+        Acted::Memory => write(sink, fixed::no_memory()),
+        Acted::Fault => write(sink, fixed::keeper_fault()),
+        Acted::Spent => Err(Outcome::Spent),
+    }
+}
+
+/// Writes a reply that is fixed before the plan is consulted.
+pub(crate) fn write_early<W: Sink>(sink: &mut W, early: EarlyReply) -> Result<(), Outcome>
+    ensures writes { Writes (early_text early) (W.state sink.old) (W.state sink.new) result }
+{
+    write(sink, early_bytes(early).as_slice())
+}
+
+/// Writes the text of a reply.
+pub(crate) fn write<W: Sink>(sink: &mut W, text: &[u8]) -> Result<(), Outcome>
+    ensures writes { Writes text.now (W.state sink.old) (W.state sink.new) result }
+{
+    match sink.put(text) {
+        Ok(()) => Ok(()),
+        Err(Failed) => Err(Outcome::WriteFault),
     }
 }

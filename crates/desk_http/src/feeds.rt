@@ -4,17 +4,15 @@ ghost use Rattle.desk_http.specs.Complete.{IsCompleteBy};
 ghost use Rattle.desk_http.specs.FedSession.{FedAnswers, FedSessionOf, feed_asked as feed_asked_lem, feed_asked_of as feed_asked_of_lem};
 ghost use Rattle.desk_http.specs.FeedTargets.{feed_named as feed_named_lem, feed_of as feed_of_lem, version_written as version_written_lem};
 ghost use Rattle.desk_http.specs.Finding.{said_by};
-ghost use Rattle.desk_http.specs.Replies.{IsFeedReply};
 
-use crate::answering::{Answerer, NoReplyCause, PreparedReply};
+use crate::answering::{Answerer, write_acted, write_early};
 use crate::names::name_told;
 use crate::port::{Feed, FeedAsk, FeedPort};
 use crate::routes::seen_of;
 use crate::serving::session_by;
 use crate::targets::{DeskRoutes, plain_number, slash_at};
-use apron_base::{Acted, Name, Outcome, Sink, Source};
+use apron_base::{Name, Outcome, Sink, Source};
 use desk_words::early::EarlyReply;
-use desk_words::fixed;
 use http_framing::RequestParts;
 use std::alloc::Global;
 
@@ -56,33 +54,20 @@ impl<P: FeedPort> Answerer<P> for FedRoutes {
 
     ghost comes = { λ fixed. FedAnswers P.asks (P.feeds fixed) };
 
-    fn answer(
+    fn answer<W: Sink>(
         &self,
         alloc: Global,
         port: &mut P,
+        sink: &mut W,
         parts: &RequestParts<'_>,
-    ) -> Result<PreparedReply, NoReplyCause> {
+    ) -> Result<(), Outcome> {
         match feed_asked(parts) {
-            None => self.desk.answer(alloc, port, parts),
-            Some(Err(early)) => Ok(PreparedReply::Early(early)),
-            Some(Ok(ask)) => answer_feed(alloc, port, &ask).ok_or(NoReplyCause::Exhausted),
+            None => self.desk.answer(alloc, port, sink, parts),
+            Some(Err(early)) => write_early(sink, early),
+            Some(Ok(FeedAsk { seen, feed })) => {
+                write_acted(sink, port.feed(alloc, seen, &feed.watch, feed.after))
+            }
         }
-    }
-}
-
-// The reply to a feed; none if the port's call numbers have run out.
-fn answer_feed<P: FeedPort>(alloc: Global, port: &mut P, ask: &FeedAsk) -> Option<PreparedReply>
-    ensures airport { P.airport_of port.new ≡ P.airport_of port.old }
-    ensures fixed { P.fixed port.new ≡ P.fixed port.old }
-    ensures came { IsFeedReply (P.feeds (P.fixed port.old) (P.airport_of port.old))
-        (P.port port.old) ask.now result (P.port port.new) }
-{
-    let Feed { watch, after } = ask.feed;
-    match port.feed(alloc, ask.seen, &watch, after) {
-        Acted::Reply(text) => Some(PreparedReply::Plan(text)),
-        Acted::Memory => Some(PreparedReply::Fixed(fixed::no_memory())),
-        Acted::Fault => unreachable!(),
-        Acted::Spent => None,
     }
 }
 

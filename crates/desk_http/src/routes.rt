@@ -7,7 +7,7 @@ ghost use Rattle.desk_http.specs.Desks.{desk_named as desk_named_lem};
 ghost use Rattle.desk_http.specs.Routes.{ReadsBody, asked_by as asked_by_lem, body_of, desk_for as desk_for_lem, json, method_of as method_of_lem, only as only_lem, route_taken as route_taken_lem, seen_version as seen_of_lem, takes_body as takes_body_lem, what_asked as what_asked_lem};
 
 use crate::numbers::within_32_bits;
-use crate::targets::{DeskRoutes, NumberedEndpoint, PlainEndpoint, Route};
+use crate::targets::{DeskRoutes, Route};
 use apron_base::{Memory, Name};
 use apron_rules::Airport;
 use desk_asks::{Ask, What};
@@ -88,8 +88,8 @@ pub(crate) fn asked_by(
 {
     let route = route_taken(routes, request.method, request.target)?;
     let seen = seen_of(request.seen).ok_or(EarlyReply::BadSeen)?;
-    let desk = desk_for(route, request.desk).ok_or(EarlyReply::BadDesk)?;
-    let what = what_asked(alloc, airport, route, desk, request.body)?;
+    let desk = desk_for(&route, request.desk).ok_or(EarlyReply::BadDesk)?;
+    let what = what_asked(alloc, airport, &route, desk, request.body)?;
     Ok(Ask { seen, what })
 }
 
@@ -98,38 +98,31 @@ fn route_taken(routes: &DeskRoutes, method: &[u8], target: &[u8]) -> Result<Rout
     ensures is { result ≡ route_taken_lem method.now target.now }
 {
     let route = routes.route_of(target).ok_or(EarlyReply::NoRoute)?;
-    if method != method_of(route) {
-        return Err(only(route));
+    if method != method_of(&route) {
+        return Err(only(&route));
     }
     Ok(route)
 }
 
 // Whether a body comes with the requests of a route.
-fn takes_body(route: Route) -> bool
-    ensures is { result ≡ takes_body_lem route }
+fn takes_body(route: &Route) -> bool
+    ensures is { result ≡ takes_body_lem route.now }
 {
     match route {
-        Route::Plain(
-            PlainEndpoint::Visits
-            | PlainEndpoint::Commits
-            | PlainEndpoint::Mvt
-            | PlainEndpoint::Reports
-            | PlainEndpoint::Cancels,
-        ) => true,
-        Route::Plain(PlainEndpoint::Version | PlainEndpoint::Unplaced | PlainEndpoint::Airport)
-        | Route::Numbered(..) => false,
+        Route::Visits | Route::Commits | Route::Mvt | Route::Reports | Route::Cancels => true,
+        _ => false,
     }
 }
 
-fn method_of(route: Route) -> &'static [u8]
-    ensures is { result.now ≡ method_of_lem route }
+fn method_of(route: &Route) -> &'static [u8]
+    ensures is { result.now ≡ method_of_lem route.now }
 {
     if takes_body(route) { b"POST" } else { b"GET" }
 }
 
 // The reply to another method than the route's.
-fn only(route: Route) -> EarlyReply
-    ensures is { result ≡ only_lem route }
+fn only(route: &Route) -> EarlyReply
+    ensures is { result ≡ only_lem route.now }
 {
     if takes_body(route) {
         EarlyReply::OnlyPost
@@ -150,11 +143,11 @@ pub(crate) fn seen_of(seen: FieldNumber) -> Option<u32>
 }
 
 // The desk for a request of this route, by the field of its name. Most routes pass the field over.
-fn desk_for(route: Route, desk: FieldText<'_>) -> Option<Name>
-    ensures desk { result ≡ desk_for_lem route (desk_named_lem (text_shown desk.entry)) }
+fn desk_for(route: &Route, desk: FieldText<'_>) -> Option<Name>
+    ensures desk { result ≡ desk_for_lem route.now (desk_named_lem (text_shown desk.entry)) }
 {
     match route {
-        Route::Plain(PlainEndpoint::Mvt | PlainEndpoint::Reports) => desk_named(desk),
+        Route::Mvt | Route::Reports => desk_named(desk),
         _ => Some(no_desk()),
     }
 }
@@ -163,33 +156,27 @@ fn desk_for(route: Route, desk: FieldText<'_>) -> Option<Name>
 fn what_asked(
     alloc: Global,
     airport: &Airport,
-    route: Route,
+    route: &Route,
     desk: Name,
     body: &[u8],
 ) -> Result<What, Unasked>
-    ensures asked { FindsOrReplies (what_asked_lem airport.now route desk body.now) result }
-    ensures memory { result ≡ Err Unasked.Memory → body_of route ≡ json }
+    ensures asked { FindsOrReplies (what_asked_lem airport.now route.now desk body.now) result }
+    ensures memory { result ≡ Err Unasked.Memory → body_of route.now ≡ json }
     ensures valid { IfOk result (IsWhatOf airport.now) }
 {
-    match route {
-        Route::Plain(PlainEndpoint::Visits) => visit_added(alloc, airport, body),
-        Route::Plain(PlainEndpoint::Commits) => commit_asked(alloc, airport, body),
-        Route::Plain(PlainEndpoint::Mvt) => Ok(message_asked(desk, body)?),
-        Route::Plain(PlainEndpoint::Reports) => report_asked(alloc, airport, desk, body),
-        Route::Plain(PlainEndpoint::Cancels) => cancel_asked(alloc, body),
-        Route::Plain(PlainEndpoint::Version) => Ok(What::Version),
-        Route::Plain(PlainEndpoint::Unplaced) => Ok(What::Unplaced),
-        Route::Plain(PlainEndpoint::Airport) => Ok(What::Airport),
-        Route::Numbered(NumberedEndpoint::Visit, number) => Ok(What::Visit(number)),
-        Route::Numbered(NumberedEndpoint::Entry, number) => Ok(What::Entry(number)),
-        Route::Numbered(NumberedEndpoint::Plan, day) => {
-            Ok(day_asked(airport, day, What::Plan(day))?)
-        }
-        Route::Numbered(NumberedEndpoint::Chart, day) => {
-            Ok(day_asked(airport, day, What::Chart(day))?)
-        }
-        Route::Numbered(NumberedEndpoint::Day, day) => {
-            Ok(day_asked(airport, day, What::Day(day))?)
-        }
+    match *route {
+        Route::Visits => visit_added(alloc, airport, body),
+        Route::Commits => commit_asked(alloc, airport, body),
+        Route::Mvt => Ok(message_asked(desk, body)?),
+        Route::Reports => report_asked(alloc, airport, desk, body),
+        Route::Cancels => cancel_asked(alloc, body),
+        Route::Version => Ok(What::Version),
+        Route::Unplaced => Ok(What::Unplaced),
+        Route::Airport => Ok(What::Airport),
+        Route::Visit(number) => Ok(What::Visit(number)),
+        Route::Entry(number) => Ok(What::Entry(number)),
+        Route::Plan(day) => Ok(day_asked(airport, day, What::Plan(day))?),
+        Route::Chart(day) => Ok(day_asked(airport, day, What::Chart(day))?),
+        Route::Day(day) => Ok(day_asked(airport, day, What::Day(day))?),
     }
 }

@@ -1,18 +1,16 @@
 // A session: requests in, replies out.
-ghost use Rattle.std.specs.Prelude.{◌≡◌};
-ghost use Rattle.http_framing.specs.Fronts.{ArePartsOf};
-ghost use Rattle.http_framing.specs.Requests.{Request};
+ghost use Rattle.std.specs.Prelude.{◌≡◌, ◌+◌, ◌<◌, ℕ};
 ghost use Rattle.desk_http.specs.Complete.{IsSessionComplete};
-ghost use Rattle.desk_http.specs.Session.{SessionBy, SessionOf, refusal_text as refusal_text_lem};
-ghost use Rattle.desk_http.specs.Serving.{IsServed, TakesExchange, outcome_of as outcome_of_lem};
+ghost use Rattle.desk_http.specs.Session.{SessionBy, SessionOf, SessionState, most_requests, refusal_text as refusal_text_lem};
+ghost use Rattle.desk_http.specs.Serving.{GoesOnOrEnds, SoFar};
 
 use crate::DeskPort;
-use crate::answering::{Answerer, NoReplyCause};
-use crate::reading::{More, take_more};
+use crate::answering::{Answerer, write};
+use crate::reading::take_more;
 use crate::targets::DeskRoutes;
-use apron_base::{Failed, Outcome, Sink, Source};
+use apron_base::{Outcome, Sink, Source};
 use desk_words::fixed;
-use http_framing::{Front, Incoming, RequestParts, RequestRefusal, StreamEnd};
+use http_framing::{Front, Incoming, RequestParts, RequestRefusal};
 use std::alloc::Global;
 
 // The most requests that one session answers.
@@ -64,63 +62,15 @@ pub(crate) fn session_by<P: DeskPort, A: Answerer<P>, S: Source, W: Sink>(
         return Outcome::Memory;
     };
     for count in 0..MOST_REQUESTS {
-        let met = take_exchange(alloc, answerer, port, source, sink, &mut incoming);
-        match outcome_of(met) {
-            None => {}
-            Some(outcome) => return outcome,
+        match take_exchange(alloc, answerer, port, source, sink, &mut incoming) {
+            Ok(()) => {}
+            Err(outcome) => return outcome,
         }
     }
     Outcome::Limit
 }
 
-/// What was met in one exchange of a session, and what became of it.
-#[derive(Clone, Copy, Debug, PartialEq, Eq)]
-pub(crate) enum Exchange {
-    /// A request was met, and served or not.
-    Request {
-        closes: bool,
-        served: Result<(), Unserved>,
-    },
-    /// A request was met that is refused, and told so or not.
-    Refused(Result<(), Failed>),
-    /// The source has ended.
-    AtEnd(StreamEnd),
-    SourceFault,
-}
-
-/// Why no reply was written, or not the whole of it.
-#[derive(Clone, Copy, Debug, PartialEq, Eq)]
-pub(crate) enum Unserved {
-    NoReply(NoReplyCause),
-    SinkFault,
-}
-
-// How a session ends after such an exchange; none if it goes on.
-fn outcome_of(met: Exchange) -> Option<Outcome>
-    ensures is { result ≡ outcome_of_lem met }
-{
-    match met {
-        Exchange::Request {
-            closes,
-            served: Ok(()),
-        } => if closes { Some(Outcome::Closed) } else { None },
-        Exchange::Request {
-            closes: _,
-            served: Err(why),
-        } => Some(match why {
-            Unserved::SinkFault => Outcome::WriteFault,
-            Unserved::NoReply(NoReplyCause::Exhausted) => Outcome::Spent,
-            Unserved::NoReply(NoReplyCause::Unread) => Outcome::Memory,
-        }),
-        Exchange::Refused(Ok(())) => Some(Outcome::Malformed),
-        Exchange::Refused(Err(Failed)) => Some(Outcome::WriteFault),
-        Exchange::AtEnd(StreamEnd::Ended) => Some(Outcome::Ended),
-        Exchange::AtEnd(StreamEnd::Cut) => Some(Outcome::Cut),
-        Exchange::SourceFault => Some(Outcome::ReadFault),
-    }
-}
-
-// Reads until a request has come, and serves it.
+// Reads until a request has come, and answers it. `Err` says how the session ends.
 fn take_exchange<P: DeskPort, A: Answerer<P>, S: Source, W: Sink>(
     alloc: Global,
     answerer: &A,
@@ -128,55 +78,35 @@ fn take_exchange<P: DeskPort, A: Answerer<P>, S: Source, W: Sink>(
     source: &mut S,
     sink: &mut W,
     incoming: &mut Incoming,
-) -> Exchange
-    ensures exchange { TakesExchange (A.comes (P.fixed port.old) (P.airport_of port.old))
-        (P.airport_of port.old)
+) -> Result<(), Outcome>
+    ensures goes_on { (start : SessionState) (count : ℕ)
+        → SoFar (A.comes (P.fixed port.old) (P.airport_of port.old)) (P.airport_of port.old) start
         (record { source = S.state source.old; sink = W.state sink.old; port = P.port port.old })
+        incoming.old count
+        → count < most_requests
+        → GoesOnOrEnds (A.comes (P.fixed port.old) (P.airport_of port.old)) (P.airport_of port.old)
+        start
         (record { source = S.state source.new; sink = W.state sink.new; port = P.port port.new })
-        incoming.old incoming.new result }
+        incoming.new (count + 1) result }
     ensures airport { P.airport_of port.new ≡ P.airport_of port.old }
     ensures fixed { P.fixed port.new ≡ P.fixed port.old }
 {
     'reading: loop {
         match incoming.front() {
-            Front::Whole(request) => {
-                let RequestParts { closes, length, .. } = request;
-                let served = serve_request(alloc, answerer, port, sink, &request);
+            Front::Whole(parts) => {
+                let RequestParts { closes, length, .. } = parts;
+                let answered = answerer.answer(alloc, port, sink, &parts);
                 incoming.consume(length);
-                return Exchange::Request { closes, served };
+                if closes {
+                    return answered.and(Err(Outcome::Closed));
+                }
+                return answered;
             }
-            Front::Malformed(why) => return Exchange::Refused(sink.put(refusal_text(why))),
-            Front::Partial => match take_more(source, incoming) {
-                More::Taken => {}
-                More::AtEnd => return Exchange::AtEnd(incoming.end()),
-                More::Fault => return Exchange::SourceFault,
-            },
+            Front::Malformed(why) => {
+                return write(sink, refusal_text(why)).and(Err(Outcome::Malformed));
+            }
+            Front::Partial => take_more(source, incoming)?,
         }
-    }
-}
-
-// Answers the request with these parts, and writes its reply.
-fn serve_request<P: DeskPort, A: Answerer<P>, W: Sink>(
-    alloc: Global,
-    answerer: &A,
-    port: &mut P,
-    sink: &mut W,
-    parts: &RequestParts<'_>,
-) -> Result<(), Unserved>
-    ensures served { (request : Request)
-        → ArePartsOf request parts.now
-        → IsServed (P.airport_of port.old)
-        (A.comes (P.fixed port.old) (P.airport_of port.old) (P.port port.old) request)
-        (W.state sink.old) (W.state sink.new) result (P.port port.new) }
-    ensures airport { P.airport_of port.new ≡ P.airport_of port.old }
-    ensures fixed { P.fixed port.new ≡ P.fixed port.old }
-{
-    match answerer.answer(alloc, port, parts) {
-        Ok(reply) => match reply.put(sink) {
-            Ok(()) => Ok(()),
-            Err(Failed) => Err(Unserved::SinkFault),
-        },
-        Err(why) => Err(Unserved::NoReply(why)),
     }
 }
 

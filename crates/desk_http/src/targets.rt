@@ -1,6 +1,6 @@
 // What the target of a request names.
 ghost use Rattle.std.specs.Prelude.{◌≡◌, ◌==◌, ◌<◌, IfOk, IfSome, OnOk, length, position};
-ghost use Rattle.desk_http.specs.Table.{number_after_word as number_after_word_lem, route_at as route_at_lem, table, with_route, with_routes};
+ghost use Rattle.desk_http.specs.Table.{route_at as route_at_lem, table, text_after_word as text_after_word_lem, with_route, with_routes};
 ghost use Rattle.desk_http.specs.Targets.{plain_number as plain_number_lem, route_of as route_of_lem, slash};
 
 use crate::numbers::within_32_bits;
@@ -8,9 +8,9 @@ use apron_base::{MAX_DIGITS, Memory, number_of};
 use matchit::{InsertError, Router};
 use std::alloc::Global;
 
-/// What a target of one word names.
+/// What a target names without the text that may end it.
 #[derive(Clone, Copy, Debug, PartialEq, Eq)]
-pub(crate) enum PlainEndpoint {
+pub(crate) enum Endpoint {
     Visits,
     Commits,
     Mvt,
@@ -19,52 +19,52 @@ pub(crate) enum PlainEndpoint {
     Version,
     Unplaced,
     Airport,
-}
-
-/// What a target of a word and a number names.
-#[derive(Clone, Copy, Debug, PartialEq, Eq)]
-pub(crate) enum NumberedEndpoint {
-    /// The visit of this number.
     Visit,
-    /// The entry of this number.
     Entry,
-    /// The plan of this day.
     Plan,
-    /// The wall chart of this day.
     Chart,
-    /// The visits of this day.
     Day,
-}
-
-/// What a target names without the number that may end it.
-#[derive(Clone, Copy, Debug, PartialEq, Eq)]
-pub(crate) enum Endpoint {
-    Plain(PlainEndpoint),
-    Numbered(NumberedEndpoint),
 }
 
 /// What a target names.
 #[derive(Clone, Copy, Debug, PartialEq, Eq)]
 pub(crate) enum Route {
-    Plain(PlainEndpoint),
-    Numbered(NumberedEndpoint, u32),
+    Visits,
+    Commits,
+    Mvt,
+    Reports,
+    Cancels,
+    Version,
+    Unplaced,
+    Airport,
+    /// The visit of this number.
+    Visit(u32),
+    /// The entry of this number.
+    Entry(u32),
+    /// The plan of this day.
+    Plan(u32),
+    /// The wall chart of this day.
+    Chart(u32),
+    /// The visits of this day.
+    Day(u32),
 }
 
-/// All endpoints with the router's patterns of their targets.
+/// All endpoints with the router's patterns of their targets, in the order of the definition's two
+/// lists.
 const PATTERNS: [(&str, Endpoint); 13] = [
-    ("/visits", Endpoint::Plain(PlainEndpoint::Visits)),
-    ("/commits", Endpoint::Plain(PlainEndpoint::Commits)),
-    ("/mvt", Endpoint::Plain(PlainEndpoint::Mvt)),
-    ("/reports", Endpoint::Plain(PlainEndpoint::Reports)),
-    ("/cancels", Endpoint::Plain(PlainEndpoint::Cancels)),
-    ("/version", Endpoint::Plain(PlainEndpoint::Version)),
-    ("/unplaced", Endpoint::Plain(PlainEndpoint::Unplaced)),
-    ("/airport", Endpoint::Plain(PlainEndpoint::Airport)),
-    ("/visits/{n}", Endpoint::Numbered(NumberedEndpoint::Visit)),
-    ("/entries/{n}", Endpoint::Numbered(NumberedEndpoint::Entry)),
-    ("/plan/{n}", Endpoint::Numbered(NumberedEndpoint::Plan)),
-    ("/chart/{n}", Endpoint::Numbered(NumberedEndpoint::Chart)),
-    ("/day/{n}", Endpoint::Numbered(NumberedEndpoint::Day)),
+    ("/visits", Endpoint::Visits),
+    ("/commits", Endpoint::Commits),
+    ("/mvt", Endpoint::Mvt),
+    ("/reports", Endpoint::Reports),
+    ("/cancels", Endpoint::Cancels),
+    ("/version", Endpoint::Version),
+    ("/unplaced", Endpoint::Unplaced),
+    ("/airport", Endpoint::Airport),
+    ("/visits/{n}", Endpoint::Visit),
+    ("/entries/{n}", Endpoint::Entry),
+    ("/plan/{n}", Endpoint::Plan),
+    ("/chart/{n}", Endpoint::Chart),
+    ("/day/{n}", Endpoint::Day),
 ];
 
 /// The routes of a desk.
@@ -91,7 +91,7 @@ impl DeskRoutes {
             return None;
         };
         match self.router.at(text) {
-            Ok(found) => route_at(*found.value, target),
+            Ok(found) => route_at(*found.value, text_after_word(target)),
             Err(_) => None,
         }
     }
@@ -125,25 +125,38 @@ fn add_route(
     router.insert(pattern, endpoint)
 }
 
-// The route of a target of this endpoint; none if its number is none.
-fn route_at(endpoint: Endpoint, target: &[u8]) -> Option<Route>
-    ensures is { result ≡ route_at_lem endpoint target.now }
+// The route of an endpoint's target with this text after its word, if it can be read.
+fn route_at(endpoint: Endpoint, text: &[u8]) -> Option<Route>
+    ensures is { result ≡ route_at_lem endpoint text.now }
 {
     Some(match endpoint {
-        Endpoint::Plain(endpoint) => Route::Plain(endpoint),
-        Endpoint::Numbered(endpoint) => Route::Numbered(endpoint, number_after_word(target)?),
+        Endpoint::Visits => Route::Visits,
+        Endpoint::Commits => Route::Commits,
+        Endpoint::Mvt => Route::Mvt,
+        Endpoint::Reports => Route::Reports,
+        Endpoint::Cancels => Route::Cancels,
+        Endpoint::Version => Route::Version,
+        Endpoint::Unplaced => Route::Unplaced,
+        Endpoint::Airport => Route::Airport,
+        Endpoint::Visit => Route::Visit(plain_number(text)?),
+        Endpoint::Entry => Route::Entry(plain_number(text)?),
+        Endpoint::Plan => Route::Plan(plain_number(text)?),
+        Endpoint::Chart => Route::Chart(plain_number(text)?),
+        Endpoint::Day => Route::Day(plain_number(text)?),
     })
 }
 
-// The number after the second slash of a target that begins with a slash.
-fn number_after_word(target: &[u8]) -> Option<u32>
-    ensures is { result ≡ number_after_word_lem target.now }
+// The text after the second slash of a target that begins with a slash; empty if there is none.
+fn text_after_word(target: &[u8]) -> &[u8]
+    ensures is { result.now ≡ text_after_word_lem target.now }
 {
     let [_, rest @ ..] = target else {
-        return None;
+        return &[];
     };
-    let end = slash_at(rest)?;
-    plain_number(&rest[end + 1..])
+    match slash_at(rest) {
+        Some(end) => &rest[end + 1..],
+        None => &[],
+    }
 }
 
 /// The place of the first slash.

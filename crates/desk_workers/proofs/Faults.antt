@@ -1,9 +1,9 @@
 -- The faults that the calls of a seat tell.
-use Rattle.std.proofs.Common.{◌≡◌, ◌⊎◌, ◌∙◌, ◌<◌, ◌≤◌, ◌+◌, nat_le, nat_lt, ℕ, Bool, true, false, cond, List, [], ◌∷◌, ap, inl, inr, subst, ⊎_elim, arith}
+use Rattle.std.proofs.Common.{◌≡◌, ◌⊎◌, ◌<◌, ◌≤◌, ◌+◌, nat_le, nat_lt, ℕ, Bool, true, false, cond, List, [], ◌∷◌, ap, inl, inr, subst, ⊎_elim, arith}
 use Rattle.std.specs.List.{sum_by}
 use Rattle.std.proofs.lemmas.Bool.Decides.{leb_tells, nat_tests}
 use Rattle.std.proofs.lemmas.List.Sums.{sum_by-cons}
-use Rattle.apron_base.specs.Counts.{Counts, RoseBy, last_count}
+use Rattle.apron_base.specs.Counts.{Counts, last_count}
 use Rattle.apron_base.specs.Histories.{Every}
 use Rattle.apron_base.specs.Machine.{is_fault}
 use Rattle.apron_base.specs.declared.outside.Acted.{Acted}

@@ -14,7 +14,7 @@ use Rattle.desk_words.specs.declared.replies.ReplyBody.TheVariants.{Ahead, Versi
 use Rattle.history_core.specs.Answer.{ActsLegally, Given, GivesAt, Sought, acted_from, keeper_fault, no_memory, replied, told}
 use Rattle.history_core.specs.AtRisk.{IsAskedFor}
 use Rattle.history_core.specs.History.{IsLegal, call_limit, call_of, replay}
-use Rattle.desk_http.specs.Alone.{AloneAsks, IsAlone, port_over}
+use Rattle.desk_http.specs.Alone.{AloneAsks, port_over}
 use Rattle.desk_http.specs.FeedPorts.{ShowsFeed, version_ask}
 use Rattle.desk_http.specs.Ports.{IsExhausted, ShowsAsk}
 use Rattle.desk_http.specs.declared.port.FeedAsk.{FeedAsk}
