@@ -1,5 +1,5 @@
 -- What asking to add visits makes of a board, and what a second import of them comes to.
-use Rattle.std.proofs.Common.{◌≡◌, ◌∙◌, ◌≤◌, ◌<◌, ◌+◌, ℕ, true, false, List, [], ◌∷◌, ◌++◌, length, length-append, append-nil, append_assoc, nat_lt, refl, sym, ap, subst, arith, inl, inr, Option, None, Some}
+use Rattle.std.proofs.Common.{◌≡◌, ◌∙◌, ◌⊎◌, ◌≤◌, ◌<◌, ◌+◌, ℕ, true, false, List, [], ◌∷◌, ◌++◌, length, length-append, append-nil, append_assoc, nat_lt, refl, sym, ap, subst, arith, inl, inr, Option, None, Some}
 use Rattle.std.specs.Prelude.{IfSome}
 use Rattle.std.proofs.lemmas.Bool.Decides.{nat_tests}
 use Rattle.apron_base.specs.Counts.{Counts}
@@ -25,7 +25,7 @@ use Rattle.history_core.specs.Laws.{HasAdded, HasVisit}
 use Rattle.history_core.specs.Acceptance.{Stepped, TakenAs, accepted, ahead, denied, edit, full, name, refused, repeated}
 use Rattle.history_core.proofs.Added.{visits_added}
 use Rattle.history_core.proofs.Legal.{front_legal}
-use Rattle.apron_run.specs.Asking.{AsksOnce, AsksSeason, IsMet, IsMissing, IsThere, MeetsAll, NoMoreAtRisk, OnlyAtRisk, Reached, StopsAmong, StopsImport, record_behind}
+use Rattle.apron_run.specs.Asking.{AsksOnce, AsksSeason, IsMissing, IsThere, MeetsAll, Reached, StopsAmong, StopsImport}
 use Rattle.apron_run.specs.SecondImport.{AddsNothing, SecondAddsNothing}
 use Rattle.apron_run.specs.declared.imported.Imported.{Imported}
 use Rattle.apron_run.specs.declared.imported.Imported.TheVariants.{Whole, ShelfFault, TooLong, Refused, Full, DiskFault, Spent, Memory}
@@ -57,18 +57,30 @@ answered_step airport before after call new bytes (replied reply, is, gives) =
 answered_step airport before after call new bytes (no_memory, is, gives) = absurd cc
 answered_step airport before after call new bytes (keeper_fault, is, gives) = absurd cc
 
+-- the visit was added, or was there already
+abbrev pub IsMet : Stepped → Type 0
+IsMet accepted = Unit {0}
+IsMet (repeated entry) = Unit {0}
+IsMet stepped = ⊥
+
+pub is_met : (stepped : Stepped) → (stepped ≡ accepted) ⊎ ((entry : ℕ) × (stepped ≡ repeated entry)) → IsMet stepped
+is_met stepped (inl is) = subst IsMet (sym is) tt
+is_met stepped (inr (entry, is)) = subst IsMet (sym is) tt
+
 -- how what was reached stands
 abbrev pub standing_at : Reached → Standing Entry
 standing_at at = record { entries = at.history; at_risk = at.at_risk }
 
 -- an ask that did not fail leaves nothing more at risk
-pub no_more : (before after : Reached) (new : NewVisit) → LeavesAtRisk (standing_at before) before.next (asking new).what false (standing_at after) → NoMoreAtRisk before after
+pub no_more : (before after : Reached) (new : NewVisit) → LeavesAtRisk (standing_at before) before.next (asking new).what false (standing_at after)
+    → before.at_risk ≡ None → after.at_risk ≡ None
 no_more before after new (inl none) safe = none
 no_more before after new (inr (inl (same, entries))) safe = same ∙ safe
 no_more before after new (inr (inr (failed, left))) safe = absurd cc
 
 -- one that failed may leave its visit's entry
-only_at_risk : (before after : Reached) (new : NewVisit) → LeavesAtRisk (standing_at before) before.next (asking new).what true (standing_at after) → OnlyAtRisk before new after
+only_at_risk : (before after : Reached) (new : NewVisit) → LeavesAtRisk (standing_at before) before.next (asking new).what true (standing_at after)
+    → before.at_risk ≡ None → IfSome after.at_risk (IsAskedFor before.next (Change (AddVisit new)))
 only_at_risk before after new (inl none) safe = subst (λ (risk : Option Entry). IfSome risk (IsAskedFor before.next (asking new).what)) (sym none) tt
 only_at_risk before after new (inr (inl (same, entries))) safe =
     subst (λ (risk : Option Entry). IfSome risk (IsAskedFor before.next (asking new).what)) (sym (same ∙ safe)) tt
@@ -146,7 +158,7 @@ module _ (airport : AirportParts) (before after : Reached) (new : NewVisit) (byt
       let is : took.stepped ≡ accepted = came_by before.history after.history before.next (AddVisit new) took.stepped took.makes more in
       record {
         stepped = took.stepped;
-        met = subst IsMet (sym is) tt;
+        met = inl is;
         asks = record { takes = took.steps; history = took.makes; next = next; faults = faults; at_risk = no_more before after new risk };
       }
 
@@ -160,7 +172,7 @@ module _ (airport : AirportParts) (before after : Reached) (new : NewVisit) (byt
       let (visit, known) = subst (λ (h : List Entry). IsThere (replay airport h) new) same there in
       record {
         stepped = repeated visit.added;
-        met = tt;
+        met = inr (visit.added, refl);
         asks = record { takes = (visit, known, refl); history = same ∙ sym (append-nil before.history); next = next; faults = faults; at_risk = no_more before after new risk };
       }
 
@@ -197,7 +209,7 @@ module _ (airport : AirportParts) where
   -- an entry came, or none
   pub one_counts : (before after : Reached) (new : NewVisit) → AsksOnce airport before new after
       → (length before.history ≤ length after.history) × (length after.history ≤ length before.history + 1)
-  one_counts before after new one = counts one.stepped one.met one.asks.history
+  one_counts before after new one = counts one.stepped (is_met one.stepped one.met) one.asks.history
     where
       counts : (stepped : Stepped) → IsMet stepped → after.history ≡ before.history ++ added_entries before.next (AddVisit new) stepped
           → (length before.history ≤ length after.history) × (length after.history ≤ length before.history + 1)
@@ -231,7 +243,7 @@ module _ (airport : AirportParts) where
 
   -- a visit that was met has its entry
   one_added : (before after : Reached) (new : NewVisit) → IsLegal airport before.history → AsksOnce airport before new after → (version : ℕ) × HasAdded after.history version new
-  one_added before after new legal one = has one.stepped one.met one.asks.takes one.asks.history
+  one_added before after new legal one = has one.stepped (is_met one.stepped one.met) one.asks.takes one.asks.history
     where
       has : (stepped : Stepped) → IsMet stepped → TakenAs (replay airport before.history) (length before.history) (AddVisit new) stepped
           → after.history ≡ before.history ++ added_entries before.next (AddVisit new) stepped → (version : ℕ) × HasAdded after.history version new
@@ -315,24 +327,22 @@ module _ (airport : AirportParts) where
   among_same visits again left imported there stops =
       let (front, new) = in_front (IsThere (replay airport again.history)) stops.front stops.new stops.back (subst (Every (IsThere (replay airport again.history))) stops.are there) in
       let before : stops.at.history ≡ again.history = all_same stops.front again stops.at front stops.met in
-      let (last, nothing) = stops_same (record_behind stops.front) stops.at stops.new left imported (length visits)
+      let (last, nothing) = stops_same (length stops.front + 2) stops.at stops.new left imported (length visits)
       (subst (λ (h : List Entry). IsThere (replay airport h) stops.new) (sym before) new) stops.stops in
       (last ∙ before, nothing)
 
   -- asks that stopped at one visit
   pub among_season : (visits : List NewVisit) (before after : Reached) (imported : Imported) → StopsAmong airport visits before after imported
       → AsksSeason airport visits before after imported
-  among_season visits before after (Whole added_entries present) stops = absurd stops.stops
+  among_season visits before after (Whole added present) stops = absurd stops.stops
   among_season visits before after imported stops = stops
 
   -- a second import of visits that are there
   pub second_same : (visits : List NewVisit) (again left : Reached) (imported : Imported) → Every (IsThere (replay airport again.history)) visits
       → AsksSeason airport visits again left imported → (left.history ≡ again.history) × AddsNothing (length visits) imported
-  second_same visits again left (Whole added_entries present) there asks =
-      let same : left.history ≡ again.history = all_same visits again left there asks.met in
+  second_same visits again left (Whole added present) there (met, came, all) =
+      let same : left.history ≡ again.history = all_same visits again left there met in
       let as_many : length left.history ≡ length again.history = ap length same in
-      let came = asks.added_are in
-      let all = asks.present_are in
       (same, (omega arith, omega arith))
   second_same visits again left ShelfFault there asks = among_same visits again left ShelfFault there asks
   second_same visits again left TooLong there asks = among_same visits again left TooLong there asks

@@ -12,16 +12,19 @@ use Rattle.plan_core.specs.PlanState.{PlanState}
 use Rattle.history_core.specs.Answer.{Given, GivesAt, Sought, changes, keeper_fault, no_memory, replied, ask_outcome, told, added_entries}
 use Rattle.history_core.specs.History.{IsLegal, replay}
 use Rattle.desk_http.specs.Alone.{AloneAsks, numbers_from}
-use Rattle.desk_http.specs.Answers.{Sent, SendsFor, at_once, fed, given}
+use Rattle.desk_http.specs.Answers.{AnswersTo, Sent, at_once, fed, given}
 use Rattle.desk_http.specs.Ports.{CountsGiven, PortState}
 use Rattle.desk_http.specs.Runs.{Runs}
 use Rattle.desk_workers.specs.Watched.{FeedTexts}
 use Rattle.desk_http.proofs.OneDesk.{length-numbers_from, numbers_from-push}
-use Rattle.apron_run.specs.Headline.{GoesOnFrom, Sends, is_given}
-use Rattle.apron_run.proofs.Feeding.{as_plain}
+use Rattle.apron_run.proofs.Feeding.{Sends, as_plain, is_given}
+
+-- the entries of a history, and then those that came
+abbrev pub GoesOnFrom : List Entry → List Entry → Type 0
+GoesOnFrom opened history = (added : List Entry) × (history ≡ opened ++ added)
 
 -- no entry came
-none_came : (opened history : List Entry) → history ≡ opened → GoesOnFrom opened history
+pub none_came : (opened history : List Entry) → history ≡ opened → GoesOnFrom opened history
 none_came opened history same = ([], same ∙ sym (append-nil opened))
 
 -- what is given leaves the history as it was, or with one more entry
@@ -39,7 +42,7 @@ no_fewer no_memory before now counts = counts
 no_fewer keeper_fault before now (least, rose) = least
 
 -- entries that came, and then others
-more_came : (opened mid history : List Entry) → GoesOnFrom opened mid → GoesOnFrom mid history → GoesOnFrom opened history
+pub more_came : (opened mid history : List Entry) → GoesOnFrom opened mid → GoesOnFrom mid history → GoesOnFrom opened history
 more_came opened mid history (first, one) (more, rest) = (first ++ more, rest ∙ (ap (λ m. m ++ more) one ∙ append_assoc opened first more))
 
 module _ (airport : AirportParts) where
@@ -63,7 +66,7 @@ module _ (airport : AirportParts) where
   }
 
   -- one answer to an ask
-  sent_leaves : (before after : PortState) (asked : Result Ask EarlyReply) (sent : Sent) → SendsFor AloneAsks airport before asked sent after → Leaves before after (cond (is_given sent) 1 0)
+  sent_leaves : (before after : PortState) (asked : Result Ask EarlyReply) (sent : Sent) → AnswersTo AloneAsks airport before asked (Ok sent) after → Leaves before after (cond (is_given sent) 1 0)
   sent_leaves before after (Err reply) (at_once sent) (is, same) = leaves_none before after same
   sent_leaves before after (Err reply) (given answer) h = absurd h
   sent_leaves before after (Err reply) (fed answer) h = absurd h

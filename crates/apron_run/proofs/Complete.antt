@@ -1,44 +1,87 @@
 -- Every run is complete.
-use Rattle.std.proofs.Common.{◌≡◌, ◌∙◌, ℕ, inl, inr, ap}
+use Rattle.std.proofs.Common.{◌≡◌, ◌∙◌, ◌≤◌, ◌⊎◌, ℕ, inl, inr, refl, sym, ap, subst}
+use Rattle.apron_base.specs.Counts.{Rose}
 use Rattle.desk_workers.specs.Watched.{FeedTexts}
 use Rattle.apron_run.specs.Complete.{CanBeRun, EndsWell, IsRunComplete, NoneFails}
+use Rattle.apron_check.specs.Lines.{counts_line}
+use Rattle.apron_run.specs.Chart.{AtDay}
+use Rattle.apron_run.specs.Desk.{AtDesk}
+use Rattle.apron_run.specs.End.{EndsUntouched, status_of}
 use Rattle.apron_run.specs.Export.{IsSeason}
+use Rattle.apron_run.specs.Import.{AtSeason}
+use Rattle.apron_run.specs.Init.{AtInit}
+use Rattle.apron_run.specs.Make.{AtMake}
+use Rattle.apron_run.specs.PlanText.{AtPlan}
 use Rattle.apron_run.specs.Propose.{IsProposed}
-use Rattle.apron_run.specs.Carried.{CarriedAs, Carries}
+use Rattle.apron_run.specs.Run.{Does, RunsAs}
 use Rattle.apron_run.specs.Statuses.{exit_code}
-use Rattle.apron_run.specs.Words.{Subcommand, desk, init, check, chart, import, export, propose, upgrade, make, help, version, faulty}
+use Rattle.apron_run.specs.Upgrade.{AtUpgrade}
+use Rattle.apron_run.specs.Words.{Subcommand, desk, init, check, chart, import, export, propose, upgrade, make, help, version, faulty, number_within}
 use Rattle.apron_run.specs.World.{World}
+use Rattle.apron_check.specs.declared.faults.FilesFault.TheVariants as files
+use Rattle.apron_run.specs.declared.end.End.{End}
+use Rattle.apron_run.specs.declared.end.End.TheVariants.{Printed, Faulty}
 use Rattle.apron_run.specs.declared.status.Status.{Status}
-use Rattle.apron_run.proofs.Completing.{Well, chart_well, check_well, import_well, init_well, make_well, print_well, prints_well}
+use Rattle.apron_run.specs.declared.status.Status.TheVariants.{Done, WriteFault}
+use Rattle.apron_run.proofs.Causing.{line_least, ran, rose_on}
+use Rattle.apron_run.proofs.Completing.{Well, day_well, files_well, init_well, moved_season, plan_well, season_well}
 use Rattle.apron_run.proofs.Sessions.{desk_well}
 use Rattle.apron_run.proofs.Upgrading.{upgrade_well}
 
+make_well : (visits : ℕ) (before after : World) (end : End) → AtMake visits before after end → Well (status_of end)
+make_well visits before after (Printed line) at = inl refl
+make_well visits before after (Faulty files.Memory) at = inr refl
+make_well visits before after end at = absurd at
+
 -- each word
-does_well : (feeds : FeedTexts) (asked : Subcommand) (before after : World) (status : Status) → CanBeRun asked before → NoneFails before after → Carries feeds asked before after status → Well status
-does_well feeds (desk airport types) before after status (made, has, (history, journal, input)) free does =
-    desk_well feeds made history airport types before after status has journal input free does
-does_well feeds (init airport types) before after status (made, has, empty) free does =
-    init_well made airport types before after status has empty free.shelf free.sink free.disk does
-does_well feeds (check airport types) before after status (made, has, rest) free does = check_well made airport types before after status has free.shelf free.sink does
-does_well feeds (chart airport types day) before after status (made, has, (history, journal, named)) free does =
-    chart_well made history airport types before after status has journal free.shelf free.sink free.disk day named does
-does_well feeds (import airport types season) before after status (made, has, (history, journal, valid)) free does =
-    import_well made history airport types season before after status has journal valid free.shelf free.sink free.disk does
-does_well feeds (export airport types) before after status (made, has, (history, journal, rest)) free does =
-    prints_well made history airport types before after status has journal free.shelf free.sink free.disk IsSeason does
-does_well feeds (upgrade airport types) before after status (made, has, can) free does =
-    upgrade_well made airport types before after status has can free.shelf free.sink free.disk does
-does_well feeds (propose airport types name draft) before after status (made, has, (history, journal, rest)) free does =
-    prints_well made history airport types before after status has journal free.shelf free.sink free.disk (IsProposed name draft) does
-does_well feeds (make visits) before after status valid free does = make_well visits before.sink after.sink status free.sink does.1
-does_well feeds help before after status valid free does = print_well _ before.sink after.sink status free.sink does.1
-does_well feeds version before after status valid free does = print_well _ before.sink after.sink status free.sink does.1
-does_well feeds faulty before after status valid free does = absurd valid
+does_well : (feeds : FeedTexts) (asked : Subcommand) (before after : World) (end : End) → CanBeRun asked before → NoneFails before after → Does feeds asked before after end
+    → Well (status_of end)
+does_well feeds (desk airport types) before after end (made, has, (history, told, opens, input)) free =
+    files_well made airport types before after end has free.shelf (AtDesk feeds) (λ shelf same alike.
+    desk_well feeds made history (record before { shelf = shelf }) after (record { told = told; opens = opens }) input free.source free.sink free.disk end)
+does_well feeds (init airport types) before after end (made, has, empty) free =
+    files_well made airport types before after end has free.shelf AtInit (λ shelf same alike. init_well made (record before { shelf = shelf }) after end empty free.disk)
+does_well feeds (check airport types) before after end (made, has, rest) free =
+    files_well made airport types before after end has free.shelf (λ files. EndsUntouched (Printed (counts_line files.airport)))
+    (λ shelf same alike at. inl (ap status_of at.0))
+does_well feeds (chart airport types day) before after end (made, has, (history, told, opens, named)) free = files_well made airport types before after end has free.shelf
+    (λ files. AtDay files (number_within day 1 files.airport.days))
+    (λ shelf same alike. day_well made history (record before { shelf = shelf }) after (record { told = told; opens = opens }) free.disk (number_within day 1 made.airport.days) end named)
+does_well feeds (import airport types season) before after end (made, has, (history, told, opens, valid)) free =
+    files_well made airport types before after end has free.shelf (AtSeason season) (λ shelf same alike.
+    season_well made history season (record before { shelf = shelf }) after (record { told = told; opens = opens })
+    (moved_season made.airport season before.shelf shelf _ (alike season) valid) (subst (λ (n : ℕ). ¬ (Rose n after.shelf.faults)) (sym same) free.shelf) free.disk end)
+does_well feeds (export airport types) before after end (made, has, (history, told, opens, rest)) free =
+    files_well made airport types before after end has free.shelf (AtPlan IsSeason)
+    (λ shelf same alike. plan_well made history (record before { shelf = shelf }) after (record { told = told; opens = opens }) free.disk IsSeason end)
+does_well feeds (upgrade airport types) before after end (made, has, can) free =
+    files_well made airport types before after end has free.shelf AtUpgrade (λ shelf same alike. upgrade_well made (record before { shelf = shelf }) after end can free.disk)
+does_well feeds (propose airport types name draft) before after end (made, has, (history, told, opens, rest)) free =
+    files_well made airport types before after end has free.shelf (AtPlan (IsProposed name draft))
+    (λ shelf same alike. plan_well made history (record before { shelf = shelf }) after (record { told = told; opens = opens }) free.disk (IsProposed name draft) end)
+does_well feeds (make visits) before after end valid free = make_well visits before after end
+does_well feeds help before after end valid free = λ does. inl (ap status_of does.0)
+does_well feeds version before after end valid free = λ does. inl (ap status_of does.0)
+does_well feeds faulty before after end valid free = absurd valid
 
 ends_well : (status : Status) (code : ℕ) → code ≡ exit_code status → Well status → EndsWell code
 ends_well status code is (inl done) = inl (is ∙ ap exit_code done)
 ends_well status code is (inr wanting) = inr (is ∙ ap exit_code wanting)
 
-pub run_complete : (feeds : FeedTexts) (asked : Subcommand) (before after : World) (code : ℕ) → CarriedAs feeds asked before after code → IsRunComplete asked before after code
-run_complete feeds asked before after code runs =
-    record { well = λ valid free. ends_well runs.status code runs.code_is (does_well feeds asked before after runs.status valid free runs.does) }
+-- a count that had not risen before the line
+still_before : (before mid after : ℕ) → mid ≤ after → ¬ (Rose before after) → ¬ (Rose before mid)
+still_before before mid after least still rose = still (rose_on before mid after rose least)
+
+pub run_complete : (feeds : FeedTexts) (asked : Subcommand) (before after : World) (code : ℕ) → RunsAs feeds asked before after code → IsRunComplete asked before after code
+run_complete feeds asked before after code runs = record { well = λ valid free. by_ran valid free (ran feeds asked before after code runs) }
+  where
+    by_ran : CanBeRun asked before → NoneFails before after
+        → (code ≡ exit_code (status_of runs.end)) ⊎ ((code ≡ exit_code WriteFault) × (status_of runs.end ≡ Done) × Rose before.sink.faults after.sink.faults) → EndsWell code
+    by_ran valid free (inl is) = ends_well (status_of runs.end) code is
+        (does_well feeds asked before (record after { sink = runs.written }) runs.end valid (record {
+          shelf = free.shelf;
+          source = free.source;
+          sink = still_before before.sink.faults runs.written.faults after.sink.faults (line_least feeds asked before after code runs) free.sink;
+          disk = free.disk;
+        }) runs.does)
+    by_ran valid free (inr (cut, done, rose)) = absurd (free.sink rose)

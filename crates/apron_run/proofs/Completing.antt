@@ -1,58 +1,49 @@
 -- How a run ends that is valid and at whose ends nothing fails.
-use Rattle.std.proofs.Common.{◌≡◌, ◌≢◌, ◌∙◌, ◌<◌, ◌≤◌, ◌+◌, ◌⊎◌, ℕ, true, List, [], ◌∷◌, length, length-append, Option, None, Some, Result, Ok, Err, inl, inr, refl, sym, ap, subst, arith}
-use Rattle.std.specs.Prelude.{IsSome}
-use Rattle.apron_base.specs.Counts.{Counts, Rose}
-use Rattle.apron_base.specs.Ends.{SinkState}
+use Rattle.std.proofs.Common.{◌≡◌, ◌≢◌, ◌∙◌, ◌<◌, ◌≤◌, ◌+◌, ◌++◌, ◌⊎◌, ℕ, true, List, [], ◌∷◌, length, length-append, Option, None, Some, Result, Ok, Err, inl, inr, refl, sym, ap, subst, arith}
+use Rattle.std.specs.Prelude.{IsSome, MatchOption, MatchResult}
+use Rattle.apron_base.specs.Counts.{Counts, Rose, RoseBy}
 use Rattle.apron_base.specs.Shelf.{ShelfState}
-use Rattle.apron_base.specs.declared.listed.Memory.{Memory as Wanting}
+use Rattle.apron_base.specs.declared.numbers.VisitNo.{VisitNo}
 use Rattle.apron_rules.specs.declared.parts.AirportParts.{AirportParts}
+use Rattle.visit_book.specs.NewVisits.{new_of}
 use Rattle.visit_book.specs.declared.visits.NewVisit.{NewVisit}
+use Rattle.visit_book.specs.declared.visits.Visit.{Visit}
+use Rattle.plan_core.specs.PlanState.{PlanState}
 use Rattle.season_files.specs.Seasons.{season_in}
+use Rattle.desk_asks.specs.declared.asks.Command.TheVariants.{AddVisit}
 use Rattle.desk_asks.specs.declared.asks.Entry.{Entry}
+use Rattle.history_core.specs.Acceptance.{Stepped, TakenAs, accepted, full, name, refused, repeated}
+use Rattle.history_core.specs.Answer.{added_entries}
 use Rattle.history_core.specs.History.{call_limit, replay}
-use Rattle.journal_disk.specs.declared.fault.JournalFault.{JournalFault}
 use Rattle.journal_disk.specs.declared.fault.JournalFault.TheVariants as journal
 use Rattle.apron_check.specs.Files.{FindsFiles}
 use Rattle.apron_check.specs.declared.files.AirportFiles.{AirportFiles}
 use Rattle.apron_check.specs.declared.faults.FilesFault.{FilesFault}
 use Rattle.apron_check.specs.declared.faults.FilesFault.TheVariants as files
-use Rattle.apron_run.specs.Asking.{AsksSeason, MeetsAll, Reached, StopsAmong, StopsImport, record_behind}
-use Rattle.apron_run.specs.Chart.{IsChart, day_named}
-use Rattle.apron_run.specs.Check.{TellsFault}
-use Rattle.apron_run.specs.Complete.{Admits, AdmitsEach, HasFiles, HasJournal, HasSeason, IsEmpty}
-use Rattle.apron_run.specs.Import.{AsksFound, FindsSeason, IsSeasonTooLong, Tells, most_season, new_import}
-use Rattle.apron_run.specs.Imported.{imported_line}
-use Rattle.apron_run.specs.Print.{Writes, made_text}
-use Rattle.apron_run.specs.Unusable.{TellsUnusable, status_of_unusable, unusable_line}
+use Rattle.apron_run.specs.Asking.{AsksOnce, AsksSeason, MeetsAll, Reached, StopsAmong, StopsImport, opened_board}
+use Rattle.apron_run.specs.Chart.{AtDay, IsChart}
+use Rattle.apron_run.specs.Complete.{HasSeason}
+use Rattle.apron_run.specs.End.{EndsUntouched, status_of}
+use Rattle.apron_run.specs.Import.{AtSeason, FindsSeason, Tells, most_season}
+use Rattle.apron_run.specs.Init.{AtInit}
+use Rattle.apron_run.specs.PlanText.{AtPlan}
+use Rattle.apron_run.specs.TwoFiles.{WithFiles}
 use Rattle.apron_run.specs.World.{World}
-use Rattle.apron_run.specs.Carried.{ChartsDay, ChartsFiles, ChartsNamed, ChecksFiles, DoesFound, DoesWithFiles, ImportsFiles, ImportsFound, InitsJournal, Makes, MakesJournal, MeetsImport, MeetsText, PrintsFiles, PrintsImportEnd, PrintsText, SinkAndDisk, TellsDay, TellsFound, TellsImported, TellsMade, TellsText, sink_and_disk}
+use Rattle.apron_run.specs.declared.end.End.{End}
+use Rattle.apron_run.specs.declared.end.End.TheVariants.{Printed, Imported as Ended, Faulty, Unusable as Unworkable}
 use Rattle.apron_run.specs.declared.imported.Imported.{Imported}
 use Rattle.apron_run.specs.declared.imported.Imported.TheVariants as how
 use Rattle.apron_run.specs.declared.status.Status.{Status}
-use Rattle.apron_run.specs.declared.status.Status.TheVariants.{Done, Memory, WriteFault}
-use Rattle.apron_run.specs.declared.unusable.Unusable.{Unusable}
-use Rattle.apron_run.proofs.Counting.{Lines, lines_of}
-use Rattle.apron_run.proofs.Importing.{all_faults}
-use Rattle.apron_run.proofs.Valid.{both_told, found_well, opened_once, same_bytes, unopened_wants}
+use Rattle.apron_run.specs.declared.status.Status.TheVariants.{Done, Memory}
+use Rattle.apron_run.specs.declared.unusable.Unusable.TheVariants.{Journal}
+use Rattle.apron_run.proofs.Asking.{IsMet, is_met}
+use Rattle.apron_run.proofs.Disks.{known}
+use Rattle.apron_run.proofs.Importing.{AsksFound, all_faults}
+use Rattle.apron_run.proofs.Valid.{HasFiles, HasJournal, found_well, opened_once, same_bytes, unopened_wants}
 
 -- all was done, or memory ran out
 abbrev pub Well : Status → Type 0
 Well status = (status ≡ Done) ⊎ (status ≡ Memory)
-
-module _ (before after : SinkState) (still : ¬ (Rose before.faults after.faults)) where
-  -- a text was written whole
-  pub printed_well : (text : List ℕ) (status : Status) → Writes text Done WriteFault before after status → Well status
-  printed_well text status (inl (is, wrote)) = inl is
-  printed_well text status (inr (is, (count, wrote))) = let rose = wrote.faults in absurd (still rose.1)
-
--- the line that says that memory has run out
-pub memory_well : (before after : SinkState) (status : Status) → TellsFault files.Memory before after status → Well status
-memory_well before after status tells = let lines : Lines status Memory before after = lines_of _ Memory before after status tells in inr lines.is
-
--- the line of an import that ran out of memory
-wanting_well : (before after : SinkState) (status : Status) → TellsImported how.Memory before after status → Well status
-wanting_well before after status tells =
-    let lines : Lines status Memory before after = lines_of (imported_line how.Memory) Memory before after status tells in inr lines.is
 
 -- the number of the next call, after visits were met
 all_next : (airport : AirportParts) (visits : List NewVisit) (before after : Reached) → MeetsAll airport visits before after → after.next ≡ before.next + length visits
@@ -62,134 +53,144 @@ all_next airport (new ∷ visits) before after (mid, one, rest) =
     let later : after.next ≡ mid.next + length visits = all_next airport visits mid after rest in
     omega arith
 
--- there is no journal to work on since memory has run out
-pub unopened_well : (why : Unusable) (before after : SinkState) (status : Status) → status_of_unusable why ≡ Memory → TellsUnusable why before after status → Well status
-unopened_well why before after status is tells =
-    let lines : Lines status (status_of_unusable why) before after = lines_of (unusable_line why) (status_of_unusable why) before after status tells in inr (lines.is ∙ is)
+-- a word that begins with two files ends well if it does with their airport
+module _ (made : AirportFiles) (airport types : List ℕ) (before after : World) (end : End) (has : HasFiles before.shelf airport types made)
+    (still : ¬ (Rose before.shelf.faults after.shelf.faults)) (At : AirportFiles → World → World → End → Type 0)
+    (well : (shelf : ShelfState) → shelf.faults ≡ before.shelf.faults → ((name : List ℕ) → shelf.file name ≡ before.shelf.file name)
+    → At made (record before { shelf = shelf }) after end → Well (status_of end)) where
+  abbrev AtFound : ShelfState → Result AirportFiles FilesFault → Type 0
+  AtFound shelf found = MatchResult found (λ files. At files (record before { shelf = shelf }) after end)
+      (λ fault. EndsUntouched (Faulty fault) (record before { shelf = shelf }) after end)
 
--- what was found in the two files is their airport, or memory has run out
-module _ (made : AirportFiles) (before after : ShelfState) (airport types : List ℕ) (has : HasFiles before airport types made) (still : ¬ (Rose before.faults after.faults)) where
-  pub found_or_wanting : (found : Result AirportFiles FilesFault) → FindsFiles before after airport types found → (found ≡ Ok made) ⊎ (found ≡ Err files.Memory)
-  found_or_wanting found finds = found_well before after airport types made has found finds.cause (λ failed. fails found finds failed)
-    where
-      fails : (found : Result AirportFiles FilesFault) → FindsFiles before after airport types found → found ≡ Err files.ShelfFault → ⊥
-      fails found finds failed =
-          let counts : Counts true before.faults after.faults =
-          (let failing : FindsFiles before after airport types (Err files.ShelfFault) = subst (FindsFiles before after airport types) failed finds in failing.counts) in
-          still counts.1
+  files_fail : (found : Result AirportFiles FilesFault) (shelf : ShelfState) → FindsFiles before.shelf shelf airport types found → AtFound shelf found
+      → found ≡ Err files.ShelfFault → ⊥
+  files_fail found shelf finds at is =
+      let failing : FindsFiles before.shelf shelf airport types (Err files.ShelfFault) = subst (FindsFiles before.shelf shelf airport types) is finds in
+      let counts : Counts true before.shelf.faults shelf.faults = failing.counts in
+      let (ended, untouched) = subst (AtFound shelf) is at in
+      let left : after.shelf.faults ≡ shelf.faults = ap (λ (s : ShelfState). s.faults) untouched.shelf in
+      still (subst (Rose before.shelf.faults) (sym left) counts.1)
 
-  -- what is done with what was found goes well, if it does with the airport, or memory has run out
-  pub goes_well : (Does : Result AirportFiles FilesFault → Type 0) (status : Status) → (Does (Ok made) → Well status) → (Does (Err files.Memory) → Well status)
-      → (found : Result AirportFiles FilesFault) → FindsFiles before after airport types found → Does found → Well status
-  goes_well Does status with_airport wanting found finds does = by_case (found_or_wanting found finds)
-    where
-      by_case : (found ≡ Ok made) ⊎ (found ≡ Err files.Memory) → Well status
-      by_case (inl is) = with_airport (subst Does is does)
-      by_case (inr is) = wanting (subst Does is does)
+  files_found : (found : Result AirportFiles FilesFault) (shelf : ShelfState) → FindsFiles before.shelf shelf airport types found → AtFound shelf found
+      → (found ≡ Ok made) ⊎ (found ≡ Err files.Memory) → Well (status_of end)
+  files_found found shelf finds at (inl is) =
+      let good : FindsFiles before.shelf shelf airport types (Ok made) = subst (FindsFiles before.shelf shelf airport types) is finds in
+      well shelf good.counts good.kept (subst (AtFound shelf) is at)
+  files_found found shelf finds at (inr is) = let (ended, untouched) = subst (AtFound shelf) is at in inr (ap status_of ended)
 
--- if a word does with the airport of the two files what goes well, its run goes well
-module _ (made : AirportFiles) (airport types : List ℕ) (before after : World) (status : Status) (has : HasFiles before.shelf airport types made)
-    (still : ¬ (Rose before.shelf.faults after.shelf.faults)) where
-  pub files_well : (OnFiles : AirportFiles → SinkAndDisk → SinkAndDisk → Status → Type 0) → (OnFiles made (sink_and_disk before) (sink_and_disk after) status → Well status)
-      → DoesWithFiles OnFiles airport types before after status → Well status
-  files_well OnFiles well does =
-      goes_well made before.shelf after.shelf airport types has still (λ found. DoesFound OnFiles found (sink_and_disk before) (sink_and_disk after) status) status
-      well (λ told. memory_well before.sink after.sink status told.1) does.found does.finds does.does
-
--- a run of the word `check`
-pub check_well : (made : AirportFiles) (airport types : List ℕ) (before after : World) (status : Status) → HasFiles before.shelf airport types made
-    → ¬ (Rose before.shelf.faults after.shelf.faults) → ¬ (Rose before.sink.faults after.sink.faults) → ChecksFiles airport types before after status → Well status
-check_well made airport types before after status has shelf sink checks =
-    goes_well made before.shelf after.shelf airport types has shelf (λ found. TellsFound found before.sink after.sink status) status
-    (λ tells. printed_well before.sink after.sink sink _ status tells) (λ tells. memory_well before.sink after.sink status tells) checks.found checks.finds checks.tells
+  pub files_well : WithFiles At airport types before after end → Well (status_of end)
+  files_well does =
+      let finds = does.finds in
+      files_found does.found does.shelf finds does.at
+      (found_well before.shelf does.shelf airport types made has does.found finds.cause (files_fail does.found does.shelf finds does.at))
 
 -- a journal is made on an empty disk
-module _ (digests : List ℕ) (before after : SinkAndDisk) (empty : IsEmpty before.disk) (sink : ¬ (Rose before.sink.faults after.sink.faults))
-    (disk : ¬ (Rose before.disk.faults after.disk.faults)) (status : Status) where
-  made_well : (refused : Option JournalFault) → Makes digests before.disk after.disk refused → TellsMade refused before.sink after.sink status → Well status
-  made_well None makes tells = printed_well before.sink after.sink sink made_text status tells
-  made_well (Some journal.DiskFault) makes tells = absurd (disk makes.counts.1)
-  made_well (Some journal.NotEmpty) makes tells =
-      let (bytes, none, some) = both_told before.disk.contents (λ bytes. length bytes ≡ 0) (λ bytes. length bytes ≢ 0) empty.told empty.bytes makes.bytes in
-      absurd (some none)
-  made_well (Some fault) makes tells = absurd makes
-
--- a run of the word `init`
-pub init_well : (made : AirportFiles) (airport types : List ℕ) (before after : World) (status : Status) → HasFiles before.shelf airport types made → IsEmpty before.disk
-    → ¬ (Rose before.shelf.faults after.shelf.faults) → ¬ (Rose before.sink.faults after.sink.faults) → ¬ (Rose before.disk.faults after.disk.faults)
-    → InitsJournal airport types before after status → Well status
-init_well made airport types before after status has empty shelf sink disk =
-    files_well made airport types before after status has shelf MakesJournal
-    (λ makes. made_well made.digests (sink_and_disk before) (sink_and_disk after) empty sink disk status makes.refused makes.makes makes.tells)
+pub init_well : (made : AirportFiles) (before after : World) (end : End) → before.disk.contents ≡ Some [] → ¬ (Rose before.disk.faults after.disk.faults)
+    → AtInit made before after end → Well (status_of end)
+init_well made before after (Printed text) empty disk at = inl refl
+init_well made before after (Unworkable (Journal journal.DiskFault)) empty disk at = let counts = at.uses.1 in absurd (disk counts.1)
+init_well made before after (Unworkable (Journal journal.NotEmpty)) empty disk at =
+    absurd (known before.disk.contents (λ bytes. length bytes ≢ 0) [] at.uses.0 empty refl)
+init_well made before after end empty disk at = absurd at
 
 -- a text is made of a journal
-module _ (made : AirportFiles) (history : List Entry) (before after : SinkAndDisk) (has : HasJournal made before.disk history) (sink : ¬ (Rose before.sink.faults after.sink.faults))
-    (disk : ¬ (Rose before.disk.faults after.disk.faults)) (status : Status) where
-  text_well : (Answers : AirportParts → List Entry → List ℕ → Type 0) (met : Result (Result (List ℕ) Wanting) Unusable)
-      → MeetsText Answers made before.disk after.disk met → TellsText met before.sink after.sink status → Well status
-  text_well Answers (Ok (Ok text)) meets tells = printed_well before.sink after.sink sink text status tells
-  text_well Answers (Ok (Err wanting)) meets tells = memory_well before.sink after.sink status tells
-  text_well Answers (Err why) meets tells =
-      unopened_well why before.sink after.sink status (unopened_wants made before.disk after.disk history has why meets disk) tells
+module _ (made : AirportFiles) (history : List Entry) (before after : World) (has : HasJournal made before.disk history) (disk : ¬ (Rose before.disk.faults after.disk.faults)) where
+  pub plan_well : (Answers : AirportParts → List Entry → List ℕ → Type 0) (end : End) → AtPlan Answers made before after end → Well (status_of end)
+  plan_well Answers (Printed text) at = inl refl
+  plan_well Answers (Faulty files.Memory) at = inr refl
+  plan_well Answers (Unworkable why) at = inr (unopened_wants made before.disk after.disk history has why at.uses disk)
+  plan_well Answers end at = absurd at
 
-  day_well : (day : Option ℕ) → IsSome day → ChartsDay made day before after status → Well status
-  day_well None some charts = absurd cc
-  day_well (Some day) some charts = text_well (IsChart day) charts.met charts.meets charts.tells
+  pub day_well : (day : Option ℕ) (end : End) → IsSome day → AtDay made day before after end → Well (status_of end)
+  day_well None end some at = absurd cc
+  day_well (Some day) end some at = plan_well (IsChart day) end at
 
--- a run of a word at a journal
-module _ (made : AirportFiles) (history : List Entry) (airport types : List ℕ) (before after : World) (status : Status) (has : HasFiles before.shelf airport types made)
-    (journal : HasJournal made before.disk history) (shelf : ¬ (Rose before.shelf.faults after.shelf.faults)) (sink : ¬ (Rose before.sink.faults after.sink.faults))
-    (disk : ¬ (Rose before.disk.faults after.disk.faults)) where
-  -- of the word `chart`
-  pub chart_well : (day : List ℕ) → IsSome (day_named made.airport day) → ChartsFiles airport types day before after status → Well status
-  chart_well day named =
-      files_well made airport types before after status has shelf (ChartsNamed day)
-      (λ charts. day_well made history (sink_and_disk before) (sink_and_disk after) journal sink disk status (day_named made.airport day) named charts)
+-- a plan takes a visit that it meets in one way
+module _ (plan : PlanState) (count : ℕ) (new : NewVisit) where
+  step_once : (one other : Stepped) → IsMet one → IsMet other → TakenAs plan count (AddVisit new) one → TakenAs plan count (AddVisit new) other → one ≡ other
+  step_once accepted accepted met too (none, place) steps = refl
+  step_once accepted (repeated entry) met too (none, place) (visit, (found, same), is) = let both : None ≡ Some visit = sym none ∙ found in absurd cc
+  step_once accepted other met too (none, place) steps = absurd too
+  step_once (repeated entry) accepted met too (visit, (found, same), is) (none, place) = let both : None ≡ Some visit = sym none ∙ found in absurd cc
+  step_once (repeated entry) (repeated number) met too (visit, (found, same), is) (there, (found_too, alike), number_is) =
+      let both : Some visit ≡ Some there = sym found ∙ found_too in
+      let one : visit ≡ there = cc in
+      ap repeated (is ∙ (ap (λ (v : Visit). v.added) one ∙ sym number_is))
+  step_once (repeated entry) other met too (visit, (found, same), is) steps = absurd too
+  step_once one other met too taken steps = absurd met
 
-  -- of each other that prints a text of the plan
-  pub prints_well : (Answers : AirportParts → List Entry → List ℕ → Type 0) → PrintsFiles Answers airport types before after status → Well status
-  prints_well Answers =
-      files_well made airport types before after status has shelf (PrintsText Answers)
-      (λ prints. text_well made history (sink_and_disk before) (sink_and_disk after) journal sink disk status Answers prints.met prints.meets prints.tells)
+  -- it does not refuse it
+  never_named : (one : Stepped) (number : VisitNo) → IsMet one → TakenAs plan count (AddVisit new) one → TakenAs plan count (AddVisit new) (refused (name number)) → ⊥
+  never_named accepted number met (none, place) (other, (found, differs), is) = let both : None ≡ Some other = sym none ∙ found in cc
+  never_named (repeated entry) number met (visit, (found, same), at) (other, (found_too, differs), is) =
+      let both : Some visit ≡ Some other = sym found ∙ found_too in
+      let one : visit ≡ other = cc in
+      differs (subst (λ (v : Visit). new_of v ≡ new) one same)
+  never_named one number met taken refuses = absurd met
 
--- a run of the word `make`
-pub make_well : (visits : ℕ) (before after : SinkState) (status : Status) → ¬ (Rose before.faults after.faults) → TellsDay visits before after status → Well status
-make_well visits before after status sink (inl day) = printed_well before after sink _ status day.writes
-make_well visits before after status sink (inr tells) = memory_well before after status tells
+  -- and has a place for it
+  never_full : (one : Stepped) → IsMet one → TakenAs plan count (AddVisit new) one → TakenAs plan count (AddVisit new) full → ⊥
+  never_full accepted met (none, place) (none_too, never) = never place
+  never_full (repeated entry) met (visit, (found, same), at) (none, never) = let both : None ≡ Some visit = sym none ∙ found in cc
+  never_full one met taken full_too = absurd met
 
--- a text alone
-pub print_well : (text : List ℕ) (before after : SinkState) (status : Status) → ¬ (Rose before.faults after.faults) → Writes text Done WriteFault before after status → Well status
-print_well text before after status sink tells = printed_well before after sink text status tells
+module _ (airport : AirportParts) where
+  -- visits that are met leave one history and one next number
+  all_once : (visits : List NewVisit) (before other one_left other_left : Reached) → before.history ≡ other.history → before.next ≡ other.next
+      → MeetsAll airport visits before one_left → MeetsAll airport visits other other_left → one_left.history ≡ other_left.history
+  all_once [] before other one_left other_left same next is too =
+      ap (λ (r : Reached). r.history) is ∙ (same ∙ sym (ap (λ (r : Reached). r.history) too))
+  all_once (new ∷ visits) before other one_left other_left same next (mid, one, rest) (mid_too, again, rest_too) =
+      let steps : TakenAs (replay airport other.history) (length other.history) (AddVisit new) one.stepped =
+      subst (λ (h : List Entry). TakenAs (replay airport h) (length h) (AddVisit new) one.stepped) same one.asks.takes in
+      let stepped : one.stepped ≡ again.stepped = step_once (replay airport other.history) (length other.history) new one.stepped again.stepped
+      (is_met one.stepped one.met) (is_met again.stepped again.met) steps again.asks.takes in
+      let made : before.history ++ added_entries before.next (AddVisit new) one.stepped ≡ other.history ++ added_entries other.next (AddVisit new) again.stepped =
+      rw (same, next, stepped) refl in
+      all_once visits mid mid_too one_left other_left (one.asks.history ∙ (made ∙ sym again.asks.history))
+      (one.asks.next ∙ (ap (λ (n : ℕ). n + 1) next ∙ sym again.asks.next)) rest rest_too
 
--- visits that are admitted one after another are asked
-module _ (airport : AirportParts) (visits : List NewVisit) (before after : Reached) (admits : AdmitsEach airport visits before)
+  -- the visit behind some of those that are met is met
+  met_behind : (front : List NewVisit) (new : NewVisit) (back : List NewVisit) (before after : Reached) → MeetsAll airport (front ++ new ∷ back) before after
+      → (at mid : Reached) × MeetsAll airport front before at × AsksOnce airport at new mid
+  met_behind [] new back before after (mid, one, rest) = (before, mid, refl, one)
+  met_behind (first ∷ front) new back before after (mid, one, rest) =
+      let (at, next, met, asks) = met_behind front new back mid after rest in (at, next, (mid, one, met), asks)
+
+-- visits that can be met one after another are
+module _ (airport : AirportParts) (visits : List NewVisit) (before after : Reached) (can : (left : Reached) × MeetsAll airport visits before left)
     (numbers : before.next + length visits ≤ call_limit) (still : ¬ (Rose before.faults after.faults)) where
   -- the asks stop only if memory has run out
   stops_well : (imported : Imported) → StopsAmong airport visits before after imported → imported ≡ how.Memory
-  stops_well imported stops = well imported stops.stops
+  stops_well imported stops =
+      let (left, all) = can in
+      let (at, mid, front, one) = met_behind airport stops.front stops.new stops.back before left
+      (subst (λ (vs : List NewVisit). MeetsAll airport vs before left) stops.are all) in
+      let same : at.history ≡ stops.at.history = all_once airport stops.front before before at stops.at refl refl front stops.met in
+      well imported one.stepped (is_met one.stepped one.met)
+      (subst (λ (h : List Entry). TakenAs (replay airport h) (length h) (AddVisit stops.new) one.stepped) same one.asks.takes) stops.stops
     where
-      here : Admits (replay airport stops.at.history) (length stops.at.history) stops.new
-      here = admits stops.front stops.back stops.new stops.at stops.are stops.met
-
-      well : (imported : Imported) → StopsImport airport (record_behind stops.front) stops.at stops.new after imported → imported ≡ how.Memory
-      well (how.Refused told) (is, (other, asks)) = let (visit, named, number) = asks.takes in absurd (here.name visit named)
-      well (how.Full told) (is, asks) = let (none, never) = asks.takes in absurd (never (here.grows none))
-      well how.DiskFault (takes, history, next, counts, risk) =
+      well : (imported : Imported) (stepped : Stepped) → IsMet stepped
+          → TakenAs (replay airport stops.at.history) (length stops.at.history) (AddVisit stops.new) stepped
+          → StopsImport airport (length stops.front + 2) stops.at stops.new after imported → imported ≡ how.Memory
+      well (how.Refused told) stepped met taken (is, (other, asks)) =
+          absurd (never_named (replay airport stops.at.history) (length stops.at.history) stops.new stepped other met taken asks.takes)
+      well (how.Full told) stepped met taken (is, asks) =
+          absurd (never_full (replay airport stops.at.history) (length stops.at.history) stops.new stepped met taken asks.takes)
+      well how.DiskFault stepped met taken (takes, history, next, counts, risk) =
           let same : stops.at.faults ≡ before.faults = all_faults airport stops.front before stops.at stops.met in
           absurd (still (subst (λ (n : ℕ). Rose n after.faults) same counts.1))
-      well how.Spent (last, same) =
+      well how.Spent stepped met taken (last, same) =
           let next : stops.at.next ≡ before.next + length stops.front = all_next airport stops.front before stops.at stops.met in
           let all : length visits ≡ length stops.front + length (stops.new ∷ stops.back) = ap length stops.are ∙ length-append stops.front (stops.new ∷ stops.back) in
           absurd (omega arith)
-      well how.Memory stops = refl
-      well other stops = absurd stops
+      well how.Memory stepped met taken stops = refl
+      well other stepped met taken stops = absurd stops
 
-  -- so all were asked, or the line says that memory has run out
-  asked_well : (imported : Imported) (sink now : SinkState) (status : Status) → AsksSeason airport visits before after imported → ¬ (Rose sink.faults now.faults)
-      → TellsImported imported sink now status → Well status
-  asked_well (how.Whole added present) sink now status asks wrote tells = printed_well sink now wrote _ status tells
-  asked_well other sink now status asks wrote tells =
-      wanting_well sink now status (subst (λ (i : Imported). TellsImported i sink now status) (stops_well other asks) tells)
+  -- so all were asked, or memory ran out
+  asked_well : (imported : Imported) → AsksSeason airport visits before after imported → Well (status_of (Ended imported))
+  asked_well (how.Whole added present) asks = inl refl
+  asked_well other asks = inr (ap (λ (i : Imported). status_of (Ended i)) (stops_well other asks))
 
 -- the season file's visits are found, or memory has run out
 module _ (airport : AirportParts) (season : List ℕ) (before after : ShelfState) (visits : List NewVisit) (told : IsSome (before.file season))
@@ -199,7 +200,8 @@ module _ (airport : AirportParts) (season : List ℕ) (before after : ShelfState
       let same : tells.bytes ≡ other.bytes = same_bytes (before.file season) tells.bytes other.bytes told tells.told other.told in
       sym tells.season_is ∙ (ap (season_in airport) same ∙ other.season_is)
 
-  not_too_long : (file : Option (List ℕ)) → IsSome file → Tells airport file (Ok visits) → IsSeasonTooLong file before after → ⊥
+  not_too_long : (file : Option (List ℕ)) → IsSome file → Tells airport file (Ok visits)
+      → MatchOption file (RoseBy (most_season + 1) before.read after.read) (λ kept. most_season < length kept) → ⊥
   not_too_long None given short long = absurd cc
   not_too_long (Some kept) given short long =
       let is : short.bytes ≡ kept = short.told in
@@ -216,69 +218,39 @@ module _ (airport : AirportParts) (season : List ℕ) (before after : ShelfState
   season_found (Err how.Memory) finds = inr refl
   season_found (Err other) finds = absurd finds.cause
 
--- an import into a journal
-module _ (made : AirportFiles) (history : List Entry) (season : List ℕ) (before after : World) (status : Status) (has : HasJournal made before.disk history)
-    (valid : HasSeason made.airport before.shelf season (new_import history before.disk.faults))
-    (shelf : ¬ (Rose before.shelf.faults after.shelf.faults)) (sink : ¬ (Rose before.sink.faults after.sink.faults))
-    (disk : ¬ (Rose before.disk.faults after.disk.faults)) where
-  asks_well : (found : Result (List NewVisit) Imported) (left : Reached) (imported : Imported) → (found ≡ Ok valid.visits) ⊎ (found ≡ Err how.Memory)
-      → left.faults ≡ after.disk.faults → AsksFound made.airport found (new_import history before.disk.faults) left imported
-      → TellsImported imported before.sink after.sink status → Well status
-  asks_well found left imported (inl is) faults asks tells =
-      asked_well made.airport valid.visits (new_import history before.disk.faults) left valid.admits valid.numbers
-      (subst (λ (n : ℕ). ¬ (Rose before.disk.faults n)) (sym faults) disk) imported before.sink after.sink status
-      (subst (λ (f : Result (List NewVisit) Imported). AsksFound made.airport f (new_import history before.disk.faults) left imported) is asks) sink tells
-  asks_well found left imported (inr is) faults asks tells =
-      let (same, wanting) = subst (λ (f : Result (List NewVisit) Imported). AsksFound made.airport f (new_import history before.disk.faults) left imported) is asks in
-      wanting_well before.sink after.sink status (subst (λ (i : Imported). TellsImported i before.sink after.sink status) wanting tells)
-
-  imported_well : (met : Result Imported Unusable) → MeetsImport made season before (record after { sink = before.sink }) met → PrintsImportEnd met before.sink after.sink status → Well status
-  imported_well (Ok imported) meets tells =
-      let same : meets.opened ≡ history = opened_once made before.disk after.disk history has meets.opened meets.opens in
-      asks_well meets.found meets.left imported
-      (season_found made.airport season before.shelf after.shelf valid.visits valid.told valid.tells shelf meets.found meets.finds) meets.faults
-      (subst (λ (es : List Entry). AsksFound made.airport meets.found (new_import es before.disk.faults) meets.left imported) same meets.asks) tells
-  imported_well (Err why) meets tells =
-      unopened_well why before.sink after.sink status (unopened_wants made before.disk after.disk history has why meets.uses disk) tells
-
 -- a season that is valid, with a shelf that tells the same of its file
-moved_season : (airport : AirportParts) (season : List ℕ) (shelf other : ShelfState) (start : Reached) → other.file season ≡ shelf.file season
+pub moved_season : (airport : AirportParts) (season : List ℕ) (shelf other : ShelfState) (start : Reached) → other.file season ≡ shelf.file season
     → HasSeason airport shelf season start → HasSeason airport other season start
 moved_season airport season shelf other start same valid = record {
   visits = valid.visits;
   told = subst (λ (file : Option (List ℕ)). IsSome file) (sym same) valid.told;
   tells = subst (λ (file : Option (List ℕ)). Tells airport file (Ok valid.visits)) (sym same) valid.tells;
-  admits = valid.admits;
+  met = valid.met;
   numbers = valid.numbers;
 }
 
--- a run of the word `import`
-module _ (made : AirportFiles) (history : List Entry) (airport types season : List ℕ) (before after : World) (status : Status) (has : HasFiles before.shelf airport types made)
-    (journal : HasJournal made before.disk history) (valid : HasSeason made.airport before.shelf season (new_import history before.disk.faults))
-    (shelf : ¬ (Rose before.shelf.faults after.shelf.faults)) (sink : ¬ (Rose before.sink.faults after.sink.faults)) (disk : ¬ (Rose before.disk.faults after.disk.faults)) where
-  files_fail : (found : Result AirportFiles FilesFault) (mid : ShelfState) → FindsFiles before.shelf mid airport types found
-      → ImportsFound found season (record before { shelf = mid }) after status → found ≡ Err files.ShelfFault → ⊥
-  files_fail found mid finds imports is =
-      let failing : FindsFiles before.shelf mid airport types (Err files.ShelfFault) = subst (FindsFiles before.shelf mid airport types) is finds in
-      let counts : Counts true before.shelf.faults mid.faults = failing.counts in
-      let (same, unwritten, tells) = subst (λ (f : Result AirportFiles FilesFault). ImportsFound f season (record before { shelf = mid }) after status) is imports in
-      let left : after.shelf.faults ≡ mid.faults = ap (λ (s : ShelfState). s.faults) same in
-      shelf (subst (Rose before.shelf.faults) (sym left) counts.1)
+-- an import into a journal
+module _ (made : AirportFiles) (history : List Entry) (season : List ℕ) (before after : World) (has : HasJournal made before.disk history)
+    (valid : HasSeason made.airport before.shelf season (opened_board made.airport history before.disk.faults))
+    (shelf : ¬ (Rose before.shelf.faults after.shelf.faults)) (disk : ¬ (Rose before.disk.faults after.disk.faults)) where
+  abbrev begun : Reached
+  begun = opened_board made.airport history before.disk.faults
 
-  files_found : (found : Result AirportFiles FilesFault) (mid : ShelfState) → FindsFiles before.shelf mid airport types found
-      → ImportsFound found season (record before { shelf = mid }) after status → (found ≡ Ok made) ⊎ (found ≡ Err files.Memory) → Well status
-  files_found found mid finds imports (inl is) =
-      let good : FindsFiles before.shelf mid airport types (Ok made) = subst (FindsFiles before.shelf mid airport types) is finds in
-      let faults : mid.faults ≡ before.shelf.faults = good.counts in
-      let does = subst (λ (f : Result AirportFiles FilesFault). ImportsFound f season (record before { shelf = mid }) after status) is imports in
-      imported_well made history season (record before { shelf = mid }) after status journal
-      (moved_season made.airport season before.shelf mid (new_import history before.disk.faults) (good.kept season) valid)
-      (subst (λ (n : ℕ). ¬ (Rose n after.shelf.faults)) (sym faults) shelf) sink disk does.met does.meets does.tells
-  files_found found mid finds imports (inr is) =
-      let (same, unwritten, tells) = subst (λ (f : Result AirportFiles FilesFault). ImportsFound f season (record before { shelf = mid }) after status) is imports in
-      memory_well before.sink after.sink status tells
+  asks_well : (found : Result (List NewVisit) Imported) (left : Reached) (imported : Imported) → (found ≡ Ok valid.visits) ⊎ (found ≡ Err how.Memory)
+      → left.faults ≡ after.disk.faults → AsksFound made.airport found begun left imported → Well (status_of (Ended imported))
+  asks_well found left imported (inl is) faults asks =
+      asked_well made.airport valid.visits begun left valid.met valid.numbers
+      (subst (λ (n : ℕ). ¬ (Rose before.disk.faults n)) (sym faults) disk) imported
+      (subst (λ (f : Result (List NewVisit) Imported). AsksFound made.airport f begun left imported) is asks)
+  asks_well found left imported (inr is) faults asks =
+      let (same, wanting) = subst (λ (f : Result (List NewVisit) Imported). AsksFound made.airport f begun left imported) is asks in
+      inr (ap (λ (i : Imported). status_of (Ended i)) wanting)
 
-  pub import_well : ImportsFiles airport types season before after status → Well status
-  import_well imports =
-      files_found imports.found imports.shelf imports.finds imports.imports
-      (found_well before.shelf imports.shelf airport types made has imports.found imports.finds.cause (files_fail imports.found imports.shelf imports.finds imports.imports))
+  pub season_well : (end : End) → AtSeason season made before after end → Well (status_of end)
+  season_well (Ended imported) (source, sink, meets) =
+      let same : meets.opened ≡ history = opened_once made before.disk after.disk history has meets.opened meets.opens in
+      asks_well meets.found meets.left imported
+      (season_found made.airport season before.shelf after.shelf valid.visits valid.told valid.tells shelf meets.found meets.finds) meets.faults
+      (subst (λ (es : List Entry). AsksFound made.airport meets.found (opened_board made.airport es before.disk.faults) meets.left imported) same meets.asks)
+  season_well (Unworkable why) at = inr (unopened_wants made before.disk after.disk history has why at.uses disk)
+  season_well end at = absurd at

@@ -7,8 +7,11 @@ use Rattle.journal_disk.specs.Faults.{InitFails}
 use Rattle.journal_disk.specs.Header.{empty_journal}
 use Rattle.journal_disk.specs.declared.fault.JournalFault.{JournalFault}
 use Rattle.journal_disk.specs.declared.fault.JournalFault.TheVariants as journal
-use Rattle.apron_run.specs.Init.{IsJournalMade}
-use Rattle.apron_run.specs.Carried.{Makes}
+use Rattle.apron_check.specs.declared.files.AirportFiles.{AirportFiles}
+use Rattle.apron_run.specs.Init.{AtInit, IsJournalMade}
+use Rattle.apron_run.specs.World.{World}
+use Rattle.apron_run.specs.declared.end.End.TheVariants.{Unusable}
+use Rattle.apron_run.specs.declared.unusable.Unusable.TheVariants.{Journal}
 
 -- what holds of what is exposed, if it is
 pub if_told : (contents : Option (List ℕ)) (P : List ℕ → Type 0) → ((bytes : List ℕ) → contents ≡ Some bytes → P bytes) → IfSome contents P
@@ -39,12 +42,19 @@ is_made digests before after empty safe alike reads counts = record {
 }
 
 -- why none was made
-pub is_refused : (digests : List ℕ) (before after : DiskState) (fault : JournalFault) → InitFails before after fault
-    → IfExposed before (λ bytes. length bytes ≢ 0 → Stays before after) → Makes digests before after (Some fault)
-is_refused digests before after journal.DiskFault fails spares = record {
-  spares = if_told before.contents (λ bytes. length bytes ≢ 0 → Stays before after) spares;
-  counts = fails;
+pub is_refused : (files : AirportFiles) (before after : World) (fault : JournalFault) → after.shelf ≡ before.shelf → after.source ≡ before.source → after.sink ≡ before.sink
+    → InitFails before.disk after.disk fault → IfExposed before.disk (λ bytes. length bytes ≢ 0 → Stays before.disk after.disk)
+    → AtInit files before after (Unusable (Journal fault))
+is_refused files before after journal.DiskFault shelf source sink fails spares = record {
+  shelf = shelf;
+  source = source;
+  sink = sink;
+  uses = (if_told before.disk.contents (λ bytes. length bytes ≢ 0 → Stays before.disk after.disk) spares, fails);
 }
-is_refused digests before after journal.NotEmpty (told, stays, counts) spares =
-    record { bytes = if_told before.contents (λ bytes. length bytes ≢ 0) told; unwritten = record { stays = stays; faults = counts } }
-is_refused digests before after fault fails spares = absurd fails
+is_refused files before after journal.NotEmpty shelf source sink (told, stays, counts) spares = record {
+  shelf = shelf;
+  source = source;
+  sink = sink;
+  uses = (if_told before.disk.contents (λ bytes. length bytes ≢ 0) told, record { stays = stays; faults = counts });
+}
+is_refused files before after fault shelf source sink fails spares = absurd fails

@@ -1,22 +1,20 @@
 -- What a crash may leave of a journal, from the call that opens it on.
 use Rattle.std.proofs.Common.{rules, true, take, ◌≡◌, ◌∙◌, ◌≤◌, ◌<◌, ◌+◌, ◌++◌, ◌∷◌, [], ℕ, List, length, refl, sym, ap, subst, arith, inl, inr, append-nil, length-append, Option, None, Some, Result, Ok, Err, OnOk, OnErr}
-use Rattle.std.specs.Prelude.{IfSome, option_and_then, nat_lt, if◌then◌else◌, ◌⊎◌}
+use Rattle.std.specs.Prelude.{IfSome, nat_lt, if◌then◌else◌, ◌⊎◌}
 use Rattle.std.specs.Option.{option_map}
-use Rattle.std.specs.Result.{result_ok}
 use Rattle.std.proofs.lemmas.Bool.{cases_Bool, cases_lt}
-use Rattle.std.proofs.lemmas.List.{take-append-le, take_all, take_at}
+use Rattle.std.proofs.lemmas.List.{map-append, take-append-le, take_all, take_at}
 use Rattle.apron_base.specs.Counts.{Counts}
 use Rattle.apron_base.specs.Keeper.{AddsEntry, FailsToAdd, KeeperState, with_last}
 use Rattle.apron_rules.specs.declared.parts.AirportParts.{AirportParts}
 use Rattle.desk_asks.specs.declared.asks.Entry.{Entry}
-use Rattle.entry_bytes.specs.Entries.{decode_entry}
-use Rattle.history_core.specs.AtRisk.{read_entry_at_risk as entry_behind}
-use Rattle.history_core.specs.Board.{IsKeeperOf, IsNextText, entry_texts}
+use Rattle.entry_bytes.specs.Entries.{entry_text}
+use Rattle.history_core.specs.Board.{IsKeeperOf, entry_texts}
 use Rattle.journal_disk.specs.Disk.{Between, Continues, DiskState, IfExposed, IsDurable, Passes, Stays}
 use Rattle.journal_disk.specs.Extent.{AppendsSafely, Extent, HasOpened, IsCrashSafe, StandsFor, entries_within, entry_at_risk, keeper_of}
 use Rattle.journal_disk.specs.Header.{opening_of}
 use Rattle.apron_run.specs.Journal.{IsOf}
-use Rattle.apron_run.specs.Survival.{EachImageFrom, IsTextOf, LeavesFronts, OpensToFront, OpensWith, RisksIfFailed, Survives}
+use Rattle.apron_run.specs.Survival.{EachImageFrom, LeavesFronts, RisksIfFailed, Survives}
 use Rattle.apron_run.specs.World.{Unwritten}
 use Rattle.apron_run.proofs.Disks.{known}
 use Rattle.apron_run.proofs.Headers.{told_after, told_before}
@@ -89,6 +87,14 @@ alike_both None (Some b) c one two = absurd one
 alike_both (Some a) None c one two = absurd one
 alike_both (Some a) (Some b) None one two = two
 alike_both (Some a) (Some b) (Some c) one two = tt
+
+-- the image opens to the first of these entries, this number of them or one more; or, if a call of
+-- the disk has failed, to this number of them and another entry
+abbrev OpensToFront : List ℕ → List (List ℕ) → Type 0 → ℕ → List ℕ → Type 0
+OpensToFront digests entries HasFailed sure image =
+    (opening_of digests image ≡ Ok (take sure entries))
+    ⊎ ((sure < length entries) × (opening_of digests image ≡ Ok (take (sure + 1) entries)))
+    ⊎ (HasFailed × (more : List ℕ) × (opening_of digests image ≡ Ok (with_last more (take sure entries))))
 
 -- an image that opens to all of these entries
 opens_all : (digests : List ℕ) (entries : List (List ℕ)) (HasFailed : Type 0) (image : List ℕ) → opening_of digests image ≡ Ok entries
@@ -168,6 +174,12 @@ fronts_opened digests given begun before now extent entries same first opens sec
           subst (λ (es : List (List ℕ)). OpensToFront digests es (1 ≤ now.faults) (length entries) image) (sym (opened_are extent now entries bytes opened is))
           (opens_all digests entries (1 ≤ now.faults) image (ap (opening_of digests) image_is ∙ opening bytes was));
     }
+
+-- the image opens, as the journal of the files of these digests, to these entries, or to these and
+-- one more of which this is true
+abbrev OpensWith : List ℕ → List (List ℕ) → (List ℕ → Type 0) → List ℕ → Type 0
+OpensWith digests entries IsMore image =
+    (opening_of digests image ≡ Ok entries) ⊎ ((more : List ℕ) × IsMore more × (opening_of digests image ≡ Ok (with_last more entries)))
 
 -- an image that a crash may leave of a journal opens to its entries, or to these and one more
 stands_opens : (digests : List ℕ) (extent : Extent) (bytes image : List ℕ) (AtRisk : List ℕ → Type 0) → IsOf digests bytes → StandsFor extent bytes AtRisk image
@@ -368,31 +380,39 @@ module _ (digests appended : List ℕ) (extent longer : Extent) (begun before no
   fronts_on (Err failed) adds fails = fronts_err fails
 
 -- the entries of a journal that keeps a history
-kept_are : (airport : AirportParts) (history : List Entry) (extent : Extent) (disk : DiskState) (bytes : List ℕ) → IsKeeperOf airport history (keeper_of extent disk)
+kept_are : (airport : AirportParts) (history : List Entry) (risk : Option Entry) (extent : Extent) (disk : DiskState) (bytes : List ℕ) → IsKeeperOf airport history risk (keeper_of extent disk)
     → disk.contents ≡ Some bytes → entries_within extent bytes ≡ entry_texts history
-kept_are airport history extent disk bytes kept is =
+kept_are airport history risk extent disk bytes kept is =
     known (option_map (entries_within extent) disk.contents) (λ (es : List (List ℕ)). es ≡ entry_texts history) (entries_within extent bytes) kept.entries
     (ap (option_map (entries_within extent)) is)
 
--- the bytes at risk are those of the entry at risk
-risk_text : (airport : AirportParts) (history : List Entry) (keeper : KeeperState) (text : List ℕ) → IsKeeperOf airport history keeper → keeper.at_risk ≡ Some text
-    → IsTextOf (entry_behind airport keeper) text
-risk_text airport history keeper text kept at =
-    let next : IsNextText airport history text = known keeper.at_risk (IsNextText airport history) text kept.at_risk at in
-    (next.entry, ap (option_and_then (λ bytes. result_ok (decode_entry airport bytes))) at ∙ ap result_ok next.read, next.is)
+-- the bytes of one entry more
+pub texts_with : (history : List Entry) (entry : Entry) → with_last (entry_text entry) (entry_texts history) ≡ entry_texts (with_last entry history)
+texts_with history entry = sym (map-append entry_text history (entry ∷ []))
 
--- an entry more of which one thing is true has the other
-opens_map : (digests : List ℕ) (entries : List (List ℕ)) (P Q : List ℕ → Type 0) (image : List ℕ) → ((more : List ℕ) → P more → Q more) → OpensWith digests entries P image
-    → OpensWith digests entries Q image
-opens_map digests entries P Q image to (inl opens) = inl opens
-opens_map digests entries P Q image to (inr (more, at, opens)) = inr (more, to more at, opens)
+-- the bytes at risk are those of the entry at risk
+risk_text : (risk : Option Entry) (bytes : Option (List ℕ)) (text : List ℕ) → bytes ≡ option_map entry_text risk → bytes ≡ Some text
+    → (entry : Entry) × (risk ≡ Some entry) × (text ≡ entry_text entry)
+risk_text None bytes text is at = let both : None ≡ Some text = sym is ∙ at in absurd cc
+risk_text (Some entry) bytes text is at = let both : Some text ≡ Some (entry_text entry) = sym at ∙ is in (entry, refl, cc)
+
+-- an image that opens to a history, or to it and the bytes at risk, opens to it or to it and the
+-- entry at risk
+opens_kept : (digests : List ℕ) (history : List Entry) (risk : Option Entry) (bytes : Option (List ℕ)) (image : List ℕ) → bytes ≡ option_map entry_text risk
+    → OpensWith digests (entry_texts history) (λ more. bytes ≡ Some more) image
+    → (opening_of digests image ≡ Ok (entry_texts history))
+    ⊎ ((entry : Entry) × (risk ≡ Some entry) × (opening_of digests image ≡ Ok (entry_texts (with_last entry history))))
+opens_kept digests history risk bytes image risk_is (inl opens) = inl opens
+opens_kept digests history risk bytes image risk_is (inr (more, at, opens)) =
+    let (entry, seen, is) = risk_text risk bytes more risk_is at in
+    inr (entry, seen, opens ∙ ap Ok (ap (λ (text : List ℕ). with_last text (entry_texts history)) is ∙ texts_with history entry))
 
 -- a history survives whose journal was opened in the call
-pub history_survives : (airport : AirportParts) (digests : List ℕ) (history : List Entry) (extent : Extent) (begun disk : DiskState)
-    → LeavesFronts digests (entries_within extent) begun disk → IsKeeperOf airport history (keeper_of extent disk) → IsCrashSafe extent disk
+pub history_survives : (airport : AirportParts) (digests : List ℕ) (history : List Entry) (risk : Option Entry) (extent : Extent) (begun disk : DiskState)
+    → LeavesFronts digests (entries_within extent) begun disk → IsKeeperOf airport history risk (keeper_of extent disk) → IsCrashSafe extent disk
     → IfSome disk.contents (IsOf digests)
-    → Survives digests history (entry_behind airport (keeper_of extent disk)) begun disk
-history_survives airport digests history extent begun disk fronts kept safe of = record {
+    → Survives digests history risk begun disk
+history_survives airport digests history risk extent begun disk fronts kept safe of = record {
   fronts = record {
     opened = fronts.opened;
     opens = fronts.opens;
@@ -403,14 +423,14 @@ history_survives airport digests history extent begun disk fronts kept safe of =
     sure = fronts.sure;
     some = fronts.some;
     rises = fronts.rises;
-    all = λ bytes is. fronts.all bytes is ∙ ap length (kept_are airport history extent disk bytes kept is);
+    all = λ bytes is. fronts.all bytes is ∙ ap length (kept_are airport history risk extent disk bytes kept is);
     later = λ bytes is at image low high left.
-        subst (λ (es : List (List ℕ)). OpensToFront digests es (1 ≤ disk.faults) (fronts.sure at) image) (kept_are airport history extent disk bytes kept is)
+        subst (λ (es : List (List ℕ)). OpensToFront digests es (1 ≤ disk.faults) (fronts.sure at) image) (kept_are airport history risk extent disk bytes kept is)
         (fronts.later bytes is at image low high left);
   };
   last = λ bytes is image left.
-      subst (λ (es : List (List ℕ)). OpensWith digests es (IsTextOf (entry_behind airport (keeper_of extent disk))) image)
-      (kept_are airport history extent disk bytes kept is)
-      (opens_map digests (entries_within extent bytes) _ _ image (λ more at. risk_text airport history (keeper_of extent disk) more kept at)
+      opens_kept digests history risk (entry_at_risk extent disk.contents) image kept.at_risk_is
+      (subst (λ (es : List (List ℕ)). OpensWith digests es (λ more. entry_at_risk extent disk.contents ≡ Some more) image)
+      (kept_are airport history risk extent disk bytes kept is)
       (stands_opens digests extent bytes image _ (known disk.contents (IsOf digests) bytes of is) (safe bytes is image left)));
 }

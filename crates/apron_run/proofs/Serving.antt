@@ -1,26 +1,23 @@
 -- A session on a journal: what it begins with, and what it leaves on the disk.
-use Rattle.std.proofs.Common.{◌≡◌, ◌≤◌, ◌+◌, ◌-◌, ◌∙◌, ℕ, Bool, true, false, List, [], ◌∷◌, length, inl, inr, refl, sym, ap, subst, arith, Option, None, Some, Ok}
+use Rattle.std.proofs.Common.{◌≡◌, ◌⊎◌, ◌≤◌, ◌+◌, ◌-◌, ◌++◌, ◌∙◌, ℕ, Bool, true, false, List, [], ◌∷◌, length, inl, inr, refl, sym, ap, subst, arith, Option, None, Some, Ok, Err}
 use Rattle.std.specs.Prelude.{IfSome}
-use Rattle.std.specs.Option.{option_and_then, option_map}
-use Rattle.std.specs.Result.{result_ok}
-use Rattle.std.proofs.lemmas.List.{map-append}
+use Rattle.std.specs.Option.{option_map}
 use Rattle.std.proofs.lemmas.Bool.{eqb-true}
 use Rattle.apron_base.specs.Counts.{Counts}
 use Rattle.apron_base.specs.Keeper.{KeeperState, with_last}
 use Rattle.apron_base.specs.Machine.{MachineState}
 use Rattle.apron_rules.specs.declared.parts.AirportParts.{AirportParts}
 use Rattle.desk_asks.specs.declared.asks.Entry.{Entry}
-use Rattle.entry_bytes.specs.Entries.{decode_entry, entry_text}
-use Rattle.history_core.specs.AtRisk.{read_entry_at_risk as entry_behind}
-use Rattle.history_core.specs.Board.{BoardHeld, IsKeeperOf, IsNextText, Spells, entry_texts}
-use Rattle.apron_base.specs.Histories.{Rises}
-use Rattle.history_core.specs.History.{IsLegal, call_limit, call_of}
+use Rattle.entry_bytes.specs.Entries.{IsEntryOf, entry_text}
+use Rattle.history_core.specs.Board.{BoardHeld, CanFollow, IsKeeperOf, entry_texts}
+use Rattle.apron_base.specs.Histories.{Every, Rises}
+use Rattle.history_core.specs.History.{IsLegal, IsSoundPlan, call_limit, call_of, replay}
 use Rattle.history_core.specs.Opening.{next_after, next_from}
 use Rattle.apron_base.specs.declared.outside.Outcome.{Outcome}
 use Rattle.apron_base.specs.declared.outside.Outcome.TheVariants as came
 use Rattle.http_framing.specs.Requests.{Request}
 use Rattle.desk_http.specs.Alone.{AloneAsks, numbers_from, port_over}
-use Rattle.desk_http.specs.Answers.{Sent, exhausted}
+use Rattle.desk_http.specs.Answers.{Sent}
 use Rattle.desk_http.specs.FedSession.{FedSessionOf}
 use Rattle.desk_http.specs.Ports.{PortState}
 use Rattle.desk_http.specs.Session.{EndsAfter, Last, SessionState, Progress, SessionBy, nothing, refusal, reply}
@@ -30,45 +27,43 @@ use Rattle.watch_list.specs.declared.watch.Watched.{Watched}
 use Rattle.watch_list.specs.declared.watch_asks.WatchFixed.{WatchFixed}
 use Rattle.desk_workers.specs.Alone.{AloneFeeds, AloneMachine}
 use Rattle.desk_workers.specs.Watched.{FeedTexts, feed_texts, watch_text}
-use Rattle.history_core.specs.declared.opening.OpenFault.TheVariants as entries
 use Rattle.desk_http.proofs.OneDesk.{length-numbers_from}
-use Rattle.history_core.proofs.Keepers.{spells_with}
+use Rattle.history_core.proofs.Keepers.{every_push}
+use Rattle.history_core.proofs.Legal.{front_legal, legal_sound}
 use Rattle.journal_disk.specs.Disk.{DiskState, IfExposed}
 use Rattle.journal_disk.specs.Extent.{Extent, IsCrashSafe, StandsFor, entries_within, entry_at_risk, keeper_of}
 use Rattle.journal_disk.specs.Header.{digests_in, opening_of}
 use Rattle.journal_disk.specs.declared.fault.JournalFault.TheVariants as journal
 use Rattle.apron_check.specs.declared.files.AirportFiles.{AirportFiles}
-use Rattle.apron_run.specs.Desk.{DeskAnswers, ServedCounts, ServesDesk, session_state, new_port}
-use Rattle.apron_run.specs.Headline.{Sends}
+use Rattle.apron_run.specs.Desk.{ServesDesk, session_state, new_port}
 use Rattle.apron_run.specs.Journal.{IsOf, KeepsHistory, NotOpened, OpensTo, WhyUnusable}
 use Rattle.apron_run.specs.Opened.{IsOpened}
 use Rattle.apron_run.specs.World.{Unwritten, World}
-use Rattle.apron_run.specs.Statuses.{may_serve, status_of_outcome}
 use Rattle.apron_run.specs.Survival.{Survives}
-use Rattle.apron_run.specs.Unusable.{status_of_unusable}
-use Rattle.apron_run.specs.declared.status.Status.{Status}
 use Rattle.apron_run.specs.declared.unusable.Unusable.{Unusable}
 use Rattle.apron_run.specs.declared.unusable.Unusable.TheVariants.{Journal, Entries}
-use Rattle.apron_run.proofs.Calls.{comes_leaves, run_leaves}
+use Rattle.apron_run.proofs.Calls.{GoesOnFrom, comes_leaves, more_came, none_came, run_leaves}
 use Rattle.apron_run.proofs.Disks.{known}
-use Rattle.apron_run.proofs.Feeding.{finds_spent, not_read}
-use Rattle.apron_run.proofs.Fronts.{stays_both}
-
--- the bytes of one entry more
-texts_with : (history : List Entry) (entry : Entry) → with_last (entry_text entry) (entry_texts history) ≡ entry_texts (with_last entry history)
-texts_with history entry = sym (map-append entry_text history (entry ∷ []))
+use Rattle.apron_run.proofs.Feeding.{DeskAnswers, Sends, finds_spent, not_read}
+use Rattle.apron_run.proofs.Fronts.{stays_both, texts_with}
 
 -- what is exposed, or that it is not
 told_or : {A : Type 0} {P : Type 0} (option : Option A) → (option ≡ None → P) → ((value : A) → option ≡ Some value → P) → P
 told_or None none some = none refl
 told_or (Some value) none some = some value refl
 
-module _ (files : AirportFiles) (history : List Entry) (extent : Extent) (disk : DiskState) (legal : IsLegal files.airport history)
-    (kept : IsKeeperOf files.airport history (keeper_of extent disk)) where
-  -- the entry at risk after the history
-  abbrev behind : Option Entry
-  behind = entry_behind files.airport (keeper_of extent disk)
+-- the entry of bytes at risk
+record HasText (at_risk : Option Entry) (text : List ℕ) : Type 0 where
+  entry : Entry
+  at : at_risk ≡ Some entry
+  is : text ≡ entry_text entry
 
+text_of : (at_risk : Option Entry) (text : List ℕ) → option_map entry_text at_risk ≡ Some text → HasText at_risk text
+text_of None text is = absurd cc
+text_of (Some entry) text is = record { entry = entry; at = refl; is = cc }
+
+module _ (files : AirportFiles) (history : List Entry) (behind : Option Entry) (extent : Extent) (disk : DiskState) (legal : IsLegal files.airport history)
+    (kept : IsKeeperOf files.airport history behind (keeper_of extent disk)) where
   -- a disk that does not tell what it reads as may keep any history
   keeps_untold : disk.contents ≡ None → KeepsHistory files history behind disk
   keeps_untold untold =
@@ -76,17 +71,17 @@ module _ (files : AirportFiles) (history : List Entry) (extent : Extent) (disk :
       record {
         legal = legal;
         entries = subst (λ (c : Option (List ℕ)). IfSome c (λ bytes. opening_of files.digests bytes ≡ Ok (entry_texts history))) (sym untold) tt;
-        spells = kept.spells;
+        each = kept.each;
       } in
       record { holds = inl holds; exact = λ none. holds }
 
   module _ (bytes : List ℕ) (is : disk.contents ≡ Some bytes) (of : IsOf files.digests bytes) where
     -- the disk holds a history whose entries its bytes have
-    holds_just : (others : List Entry) → IsLegal files.airport others → Spells files.airport (entry_texts others) others
+    holds_just : (others : List Entry) → IsLegal files.airport others → Every (IsEntryOf files.airport) others
         → opening_of (digests_in bytes) bytes ≡ Ok (entry_texts others) → OpensTo files disk others
-    holds_just others legal spells opening = record {
+    holds_just others legal each opening = record {
       legal = legal;
-      spells = spells;
+      each = each;
       entries = subst (λ (c : Option (List ℕ)). IfSome c (λ bytes. opening_of files.digests bytes ≡ Ok (entry_texts others))) (sym is)
           (subst (λ (digests : List ℕ). opening_of digests bytes ≡ Ok (entry_texts others)) of opening);
     }
@@ -98,20 +93,17 @@ module _ (files : AirportFiles) (history : List Entry) (extent : Extent) (disk :
     -- a disk whose bytes are those of the journal keeps its history
     keeps_told : StandsFor extent bytes (λ entry. entry_at_risk extent disk.contents ≡ Some entry) bytes → KeepsHistory files history behind disk
     keeps_told (front, inl opening) =
-        let holds : OpensTo files disk history = holds_just history legal kept.spells (opening ∙ ap Ok are) in
+        let holds : OpensTo files disk history = holds_just history legal kept.each (opening ∙ ap Ok are) in
         record { holds = inl holds; exact = λ none. holds }
     keeps_told (front, inr (risk, at, opening)) =
-        let next : IsNextText files.airport history risk = known (entry_at_risk extent disk.contents) (IsNextText files.airport history) risk kept.at_risk at in
-        let entry : Entry = next.entry in
-        let read : decode_entry files.airport risk ≡ Ok entry = next.read in
+        let found : HasText behind risk = text_of behind risk (sym kept.at_risk_is ∙ at) in
+        let entry : Entry = found.entry in
+        let next : CanFollow files.airport history entry = known behind (CanFollow files.airport history) entry kept.follows found.at in
         let texts : with_last risk (entries_within extent bytes) ≡ entry_texts (with_last entry history) =
-        ap (λ text. with_last text (entries_within extent bytes)) next.is ∙ (ap (with_last (entry_text entry)) are ∙ texts_with history entry) in
-        let seen : behind ≡ Some entry = ap (option_and_then (λ text. result_ok (decode_entry files.airport text))) at ∙ ap result_ok read in
-        let spells : Spells files.airport (entry_texts (with_last entry history)) (with_last entry history) =
-        spells_with files.airport history entry kept.spells (subst (λ (text : List ℕ). decode_entry files.airport text ≡ Ok entry) next.is read) in
+        ap (λ text. with_last text (entries_within extent bytes)) found.is ∙ (ap (with_last (entry_text entry)) are ∙ texts_with history entry) in
         record {
-          holds = inr (entry, seen, holds_just (with_last entry history) next.legal spells (opening ∙ ap Ok texts));
-          exact = λ none. let both : None ≡ Some risk = sym (kept.safe none) ∙ at in absurd cc;
+          holds = inr (entry, found.at, holds_just (with_last entry history) next.legal (every_push (IsEntryOf files.airport) history entry kept.each next.is) (opening ∙ ap Ok texts));
+          exact = λ none. let both : None ≡ Some entry = sym (kept.safe none) ∙ found.at in absurd cc;
         }
 
   -- the disk of a journal that keeps a history keeps it
@@ -146,7 +138,7 @@ opened_from tells files begun disk board same opened =
       opens = record {
         legal = opens.legal;
         entries = subst (λ (c : Option (List ℕ)). IfSome c (λ bytes. opening_of files.digests bytes ≡ Ok (entry_texts board.history))) stays.contents opens.entries;
-        spells = opens.spells;
+        each = opens.each;
       };
       next = opened.next;
       at_risk = opened.at_risk;
@@ -165,11 +157,8 @@ module _ (files : AirportFiles) (begun before after : DiskState) (same : Unwritt
   why_from (Journal journal.DiskFault) cause = counts_from true cause
   why_from (Journal journal.NotEmpty) cause = absurd cause
   why_from (Journal fault) (counts, fails) = (counts_from false counts, λ bytes is. fails bytes ((let stays = same.stays in stays.contents) ∙ is))
-  why_from (Entries fault) (texts, vain, cannot) = (
-    texts,
-    record { opening = told_from (λ bytes. opening_of files.digests bytes ≡ Ok texts) vain.opening; counts = counts_from false vain.counts },
-    cannot,
-  )
+  why_from (Entries fault) (texts, opening, counts, cannot) =
+      (texts, told_from (λ bytes. opening_of files.digests bytes ≡ Ok texts) opening, counts_from false counts, cannot)
 
   pub unopened_from : (why : Unusable) → NotOpened files before after why → NotOpened files begun after why
   unopened_from why finds = record { stays = stays_both begun before after same.stays finds.stays; cause = why_from why finds.cause }
@@ -179,28 +168,32 @@ pub next_below : (low high : ℕ) (history : List Entry) → Rises call_of low h
 next_below low high [] rises = rises
 next_below low high (entry ∷ entries) (least, rest) = next_below (call_of entry + 1) high entries rest
 
--- a port after some calls: its first number is as it was, and its count has not fallen
+-- a port after some calls: its first number is as it was, what it has seen begins with what it had
+-- seen, and its count has not fallen
 pub record GoesOn (before after : PortState) : Type 0 where
   pub first : after.first ≡ before.first
+  pub begins : GoesOnFrom before.seen after.seen
   pub faults : before.faults ≤ after.faults
 
 -- it is as it was
 stays_on : (before after : PortState) → after ≡ before → GoesOn before after
 stays_on before after same = record {
   first = ap (λ (port : PortState). port.first) same;
+  begins = none_came before.seen after.seen (ap (λ (port : PortState). port.seen) same);
   faults = let count : after.faults ≡ before.faults = ap (λ (port : PortState). port.faults) same in omega arith;
 }
 
 module _ (feeds : FeedTexts) (airport : AirportParts) where
   sent_on : (request : Request) (sent : Sent) (served after : PortState) → Sends feeds airport served request sent after → GoesOn served after
   sent_on request sent served after comes =
-      let leaves = comes_leaves airport feeds served after request sent comes in record { first = leaves.first; faults = leaves.faults }
+      let leaves = comes_leaves airport feeds served after request sent comes in record { first = leaves.first; begins = leaves.begins; faults = leaves.faults }
 
-  spent_on : (request : Request) (served after : PortState) → DeskAnswers feeds airport served request exhausted after → GoesOn served after
+  spent_on : (request : Request) (served after : PortState) → DeskAnswers feeds airport served request (Err came.Spent) after → GoesOn served after
   spent_on request served after comes =
       let finds = finds_spent feeds airport served request after comes in
       record {
         first = ap (λ (port : PortState). port.first) finds.exhausted;
+        begins = none_came served.seen after.seen (ap (λ (port : PortState). port.seen) finds.exhausted);
         faults = let count : after.faults ≡ served.faults = ap (λ (port : PortState). port.faults) finds.exhausted in omega arith;
       }
 
@@ -229,17 +222,24 @@ module _ (feeds : FeedTexts) (airport : AirportParts) where
       let ends : GoesOn session.served after.port = ends_on outcome done session.last session.served after.port session.ends in
       let first : before.port.faults ≤ session.served.faults = leaves.faults in
       let last : session.served.faults ≤ after.port.faults = ends.faults in
-      record { first = ends.first ∙ leaves.first; faults = omega arith }
+      record {
+        first = ends.first ∙ leaves.first;
+        begins = more_came before.port.seen session.served.seen after.port.seen leaves.begins ends.begins;
+        faults = omega arith;
+      }
 
--- a session lowers no count
-serves_count : (feeds : FeedTexts) (files : AirportFiles) (before after : World) (outcome : Outcome) → ServesDesk feeds files before after outcome
-    → before.disk.faults ≤ after.disk.faults
-serves_count feeds files before after outcome serves =
-    let on : GoesOn (new_port serves.opened before.disk.faults) serves.port =
-    session_on feeds files.airport (session_state before (new_port serves.opened before.disk.faults)) (session_state after serves.port) outcome serves.session in
-    let least : before.disk.faults ≤ serves.port.faults = on.faults in
-    let counted : serves.port.faults ≡ after.disk.faults = serves.faults in
-    omega arith
+-- a history that a disk keeps is legal
+pub kept_legal : (files : AirportFiles) (history : List Entry) (at_risk : Option Entry) (disk : DiskState) → KeepsHistory files history at_risk disk → IsLegal files.airport history
+kept_legal files history at_risk disk keeps = by_kind keeps.holds
+  where
+    by_kind : OpensTo files disk history ⊎ ((entry : Entry) × (at_risk ≡ Some entry) × OpensTo files disk (with_last entry history)) → IsLegal files.airport history
+    by_kind (inl opens) = opens.legal
+    by_kind (inr (entry, at, opens)) = front_legal files.airport history (entry ∷ []) opens.legal
+
+-- the plan is sound after each entry of a legal history
+pub all_sound : (airport : AirportParts) (history : List Entry) → IsLegal airport history → (front back : List Entry) → history ≡ front ++ back
+    → IsSoundPlan (replay airport front)
+all_sound airport history legal front back is = legal_sound airport front (front_legal airport front back (subst (IsLegal airport) is legal))
 
 -- a session of a desk alone over a board that was opened and got these watches, with the disk that
 -- was closed after it
@@ -249,17 +249,15 @@ abbrev pub desk_serves : {K R : Type 0} (tells : K → KeeperState) (shows : R �
     → FedSessionOf AloneAsks (AloneFeeds (watch_text shows (watch_fixed start.machine))) start.machine.board.airport
     (session_state before (port_over start.first (watch_state tells start.machine))) (session_state after (port_over done.first (watch_state tells done.machine))) outcome
     → watch_fixed done.machine ≡ watch_fixed start.machine → after.disk.faults ≡ (tells done.machine.board.keeper).faults
-    → KeepsHistory (record { airport = done.machine.board.airport; digests = files.digests }) done.machine.board.history
-    (entry_behind done.machine.board.airport (tells done.machine.board.keeper)) after.disk
-    → Survives files.digests done.machine.board.history (entry_behind done.machine.board.airport (tells done.machine.board.keeper)) before.disk after.disk
+    → KeepsHistory (record { airport = done.machine.board.airport; digests = files.digests }) done.machine.board.history done.machine.board.at_risk after.disk
+    → Survives files.digests done.machine.board.history done.machine.board.at_risk before.disk after.disk
     → ServesDesk (feed_texts shows watches) files before after outcome
 desk_serves {K} {R} tells shows watches files before after board start done outcome opened begins first session fixed counted keeps survives =
     let feeds : FeedTexts = feed_texts shows watches in
     let fresh : WatchHeld K R = record { board = board; watches = watches; next = board.next } in
     let last : SessionState = session_state after (port_over done.first (watch_state tells done.machine)) in
-    let safe : entry_behind board.airport (tells board.keeper) ≡ None = ap (option_and_then (λ text. result_ok (decode_entry board.airport text))) opened.at_risk in
     let port_is : port_over start.first (watch_state tells fresh) ≡ new_port board.history before.disk.faults =
-    alone_begun (watch_state tells fresh) start.first board.history before.disk.faults refl opened.next (first ∙ opened.next) safe opened.faults in
+    alone_begun (watch_state tells fresh) start.first board.history before.disk.faults refl opened.next (first ∙ opened.next) opened.at_risk opened.faults in
     let made : SessionBy (DeskAnswers feeds board.airport) board.airport (session_state before (port_over start.first (watch_state tells fresh))) last outcome =
     subst (λ (m : WatchHeld K R). FedSessionOf AloneAsks (AloneFeeds (watch_text shows (watch_fixed m))) m.board.airport
     (session_state before (port_over start.first (watch_state tells m))) last outcome) begins session in
@@ -275,6 +273,9 @@ desk_serves {K} {R} tells shows watches files before after board start done outc
     let legal : IsLegal files.airport board.history = opens.legal in
     let below : next_after board.history ≤ call_limit = next_below 1 call_limit board.history legal.numbers in
     let same : done.first ≡ next_after board.history = on.first in
+    let kept : KeepsHistory files done.machine.board.history done.machine.board.at_risk after.disk =
+    subst (λ (a : AirportParts). KeepsHistory (record { airport = a; digests = files.digests }) done.machine.board.history done.machine.board.at_risk after.disk) airport keeps in
+    let still : IsLegal files.airport done.machine.board.history = kept_legal files done.machine.board.history done.machine.board.at_risk after.disk kept in
     record {
       opened = board.history;
       opens = opened.opens;
@@ -282,32 +283,9 @@ desk_serves {K} {R} tells shows watches files before after board start done outc
       session = whole;
       spent = alone_spent (watch_state tells done.machine) done.first (omega arith);
       faults = sym counted;
-      keeps = subst (λ (a : AirportParts). KeepsHistory (record { airport = a; digests = files.digests }) done.machine.board.history
-          (entry_behind done.machine.board.airport (tells done.machine.board.keeper)) after.disk) airport keeps;
+      begins = on.begins;
+      legal = still;
+      sound = all_sound files.airport done.machine.board.history still;
+      keeps = kept;
       survives = survives;
     }
-
--- a status before which a session may have come
-may_tell : (status : Status) (before now : ℕ) → may_serve status ≡ true → before ≤ now → ServedCounts status before now
-may_tell status before now may least = rw may least
-
--- each outcome of a session has a status before which one may have come
-outcomes_may : (outcome : Outcome) → may_serve (status_of_outcome outcome) ≡ true
-outcomes_may came.Memory = refl
-outcomes_may outcome = refl
-
--- the counts of a session that ends with this status
-pub session_counts : (feeds : FeedTexts) (files : AirportFiles) (before after : World) (outcome : Outcome) (status : Status) → ServesDesk feeds files before after outcome
-    → status ≡ status_of_outcome outcome → ServedCounts status before.disk.faults after.disk.faults
-session_counts feeds files before after outcome status serves is =
-    may_tell status before.disk.faults after.disk.faults (ap may_serve is ∙ outcomes_may outcome) (serves_count feeds files before after outcome serves)
-
--- the counts if there was no journal to work on
-pub why_counts : (files : AirportFiles) (before after : DiskState) (why : Unusable) → WhyUnusable files before after why
-    → ServedCounts (status_of_unusable why) before.faults after.faults
-why_counts files before after (Journal journal.DiskFault) cause = cause
-why_counts files before after (Journal journal.NotEmpty) cause = absurd cause
-why_counts files before after (Journal journal.Memory) (counts, told) = omega arith
-why_counts files before after (Journal fault) (counts, told) = counts
-why_counts files before after (Entries entries.Memory) (texts, vain, cannot) = let same : after.faults ≡ before.faults = vain.counts in omega arith
-why_counts files before after (Entries fault) (texts, vain, cannot) = vain.counts

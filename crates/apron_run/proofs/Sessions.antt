@@ -1,12 +1,11 @@
 -- How a session of the word `desk` ends that is valid and at whose ends nothing fails.
-use Rattle.std.proofs.Common.{◌≡◌, ◌≢◌, ◌∙◌, ◌<◌, ◌≤◌, ◌+◌, ◌⊎◌, ℕ, true, List, [], ◌∷◌, ◌++◌, length, take, Some, Result, Ok, Err, inl, inr, refl, sym, ap, ap₂, subst, arith}
+use Rattle.std.proofs.Common.{◌≡◌, ◌≢◌, ◌∙◌, ◌<◌, ◌≤◌, ◌+◌, ◌⊎◌, ℕ, true, List, [], ◌∷◌, ◌++◌, length, take, Option, None, Some, Result, Ok, Err, inl, inr, refl, sym, ap, ap₂, subst, arith}
 use Rattle.std.specs.Prelude.{All, cond, count_by, is_ok}
 use Rattle.std.specs.Io.KnownBytes.{Consumes}
 use Rattle.std.proofs.lemmas.List.{take_all}
 use Rattle.std.proofs.lemmas.List.Elements.{All-head, All-tail}
 use Rattle.std.proofs.lemmas.List.Sums.{sum_by-append, sum_by-cons}
 use Rattle.apron_base.specs.Counts.{Rose}
-use Rattle.apron_base.specs.Ends.{SinkState}
 use Rattle.apron_base.specs.declared.outside.Outcome.{Outcome}
 use Rattle.apron_base.specs.declared.outside.Outcome.TheVariants as came
 use Rattle.apron_rules.specs.declared.parts.AirportParts.{AirportParts}
@@ -22,7 +21,7 @@ use Rattle.desk_words.specs.declared.early.EarlyReply.{EarlyReply}
 use Rattle.history_core.specs.History.{call_limit}
 use Rattle.history_core.specs.Opening.{next_after}
 use Rattle.desk_http.specs.Alone.{AloneAsks, numbers_from}
-use Rattle.desk_http.specs.Answers.{SendsFor, Sent, at_once, fed, given}
+use Rattle.desk_http.specs.Answers.{AnswersTo, Sent, at_once, fed, given}
 use Rattle.desk_http.specs.Complete.{AnswersEachBy, ComesToEnd, IsUnhindered}
 use Rattle.desk_http.specs.Ports.{PortState}
 use Rattle.desk_http.specs.Runs.{Runs}
@@ -31,24 +30,47 @@ use Rattle.desk_workers.specs.Watched.{FeedTexts}
 use Rattle.desk_http.proofs.Complete.{GoesOnBehind, listed_behind, sessions_complete_by}
 use Rattle.desk_http.proofs.OneDesk.{length-numbers_from}
 use Rattle.apron_check.specs.declared.files.AirportFiles.{AirportFiles}
-use Rattle.apron_run.specs.Complete.{EndsInTime, HasFiles, HasInput, HasJournal, NoneFails, count_of_asks}
-use Rattle.apron_run.specs.Desk.{DeskAnswers, ServesDesk, session_state, new_port}
-use Rattle.apron_run.specs.Headline.{Sends, is_given, takes_number}
-use Rattle.apron_run.specs.Statuses.{status_of_outcome}
+use Rattle.apron_run.specs.Complete.{HasInput, takes_number}
+use Rattle.apron_run.specs.Desk.{AtDesk, ServesDesk, session_state, new_port}
+use Rattle.apron_run.specs.End.{status_of}
 use Rattle.apron_run.specs.World.{World}
-use Rattle.apron_run.specs.Carried.{MeetsDesk, PrintsSessionEnd, RunsDesk, RunsFound, TellsOutcome}
-use Rattle.apron_run.specs.declared.status.Status.{Status}
+use Rattle.apron_run.specs.declared.end.End.{End}
+use Rattle.apron_run.specs.declared.end.End.TheVariants.{Served, Unusable as Unworkable}
 use Rattle.apron_run.specs.declared.status.Status.TheVariants.{Done}
-use Rattle.apron_run.specs.declared.unusable.Unusable.{Unusable}
 use Rattle.apron_run.proofs.Calls.{Leaves, run_leaves}
-use Rattle.apron_run.proofs.Completing.{Well, goes_well, memory_well, unopened_well}
-use Rattle.apron_run.proofs.Endings.{HasLeft, has_left}
-use Rattle.apron_run.proofs.Feeding.{as_plain, finds_spent}
-use Rattle.apron_run.proofs.Valid.{opened_once, unopened_wants}
+use Rattle.apron_run.proofs.Completing.{Well}
+use Rattle.apron_run.proofs.Feeding.{as_plain, finds_spent, DeskAnswers, Sends, is_given}
+use Rattle.apron_run.proofs.Valid.{HasJournal, opened_once, unopened_wants}
+
+-- what a source that tells its bytes has left, and what was taken before it
+record HasLeft (input taken : List ℕ) (left : Option (List ℕ)) : Type 0 where
+  pub rest : List ℕ
+  pub is : left ≡ Some rest
+  pub front : input ≡ taken ++ rest
+
+has_left : (input taken : List ℕ) (left : Option (List ℕ)) → Consumes (Some input) left taken → HasLeft input taken left
+has_left input taken None h = absurd h
+has_left input taken (Some rest) h = record { rest = rest; is = refl; front = h }
+
+-- how many of these requests take a call number
+abbrev count_of_asks : AirportParts → List Request → ℕ
+count_of_asks airport requests = count_by (takes_number airport) requests
+
+-- an input of this many requests ends between requests, or with one that closes the session, and a
+-- session has not answered as many as it may before
+abbrev EndsInTime : Ending → ℕ → Type 0
+EndsInTime ended count = count < most_requests
+EndsInTime closed count = count ≤ most_requests
+EndsInTime ending count = ⊥
+
+in_time : (input : List ℕ) (requests : List Request) → Requests input requests ended × (length requests < most_requests) ⊎ Requests input requests closed × (length requests ≤ most_requests)
+    → (ending : Ending) × Requests input requests ending × EndsInTime ending (length requests)
+in_time input requests (inl (reads, few)) = (ended, reads, few)
+in_time input requests (inr (reads, few)) = (closed, reads, few)
 
 module _ (feeds : FeedTexts) (airport : AirportParts) where
   -- a reply was given by the board exactly if something is asked of the plan
-  sent_asks : (before after : PortState) (asked : Result Ask EarlyReply) (sent : Sent) → SendsFor AloneAsks airport before asked sent after → is_given sent ≡ is_ok asked
+  sent_asks : (before after : PortState) (asked : Result Ask EarlyReply) (sent : Sent) → AnswersTo AloneAsks airport before asked (Ok sent) after → is_given sent ≡ is_ok asked
   sent_asks before after (Err early) (at_once sent) h = refl
   sent_asks before after (Err early) (given answer) h = absurd h
   sent_asks before after (Err early) (fed answer) h = absurd h
@@ -163,7 +185,7 @@ module _ (input : List ℕ) (listed : List Request) where
   not_limit other requests reads ends are stay most = ends
 
   comes_to_done : (outcome : Outcome) (ending : Ending) (requests : List Request) (last : List ℕ) → Requests input listed ending → EndsInTime ending (length listed)
-      → requests ≡ take most_requests listed → ComesToEnd outcome input requests last → status_of_outcome outcome ≡ Done
+      → requests ≡ take most_requests listed → ComesToEnd outcome input requests last → status_of (Served outcome) ≡ Done
   comes_to_done came.Ended ending requests last reads ends are to = refl
   comes_to_done came.Closed ending requests last reads ends are to = refl
   comes_to_done came.Cut ending requests last reads ends are to =
@@ -174,49 +196,31 @@ module _ (input : List ℕ) (listed : List Request) where
   comes_to_done other ending requests last reads ends are to = absurd to
 
 -- a session on a journal
-module _ (feeds : FeedTexts) (made : AirportFiles) (history : List Entry) (before after : World) (mid : SinkState) (status : Status) (has : HasJournal made before.disk history)
+module _ (feeds : FeedTexts) (made : AirportFiles) (history : List Entry) (before after : World) (has : HasJournal made before.disk history)
     (valid : HasInput made.airport before.source history) (source : ¬ (Rose before.source.faults after.source.faults)) (sink : ¬ (Rose before.sink.faults after.sink.faults))
     (disk : ¬ (Rose before.disk.faults after.disk.faults)) where
   -- that had memory and call numbers enough
-  other_well : (outcome : Outcome) → outcome ≢ came.Memory → outcome ≢ came.Spent
-      → ServesDesk feeds made before (record after { sink = mid }) outcome
-      → (after.sink ≡ mid) × (status ≡ status_of_outcome outcome) → Well status
-  other_well outcome memory spent serves (same, is) =
+  other_well : (outcome : Outcome) → outcome ≢ came.Memory → outcome ≢ came.Spent → ServesDesk feeds made before after outcome → Well (status_of (Served outcome))
+  other_well outcome memory spent serves =
       let start : SessionState = session_state before (new_port serves.opened before.disk.faults) in
-      let end : SessionState = session_state (record after { sink = mid }) serves.port in
-      let free : IsUnhindered start end outcome = record {
-        memory = memory;
-        numbers = spent;
-        source = source;
-        sink = subst (λ (s : SinkState). ¬ (Rose before.sink.faults s.faults)) same sink;
-      } in
+      let end : SessionState = session_state after serves.port in
+      let free : IsUnhindered start end outcome = record { memory = memory; numbers = spent; source = source; sink = sink } in
       let each : AnswersEachBy (DeskAnswers feeds made.airport) made.airport start end outcome valid.input =
       sessions_complete_by (DeskAnswers feeds made.airport) made.airport start end outcome serves.session valid.input valid.told free in
-      inl (is ∙ comes_to_done valid.input valid.requests outcome valid.ending each.requests each.last valid.reads valid.ends
-      (each.each valid.requests valid.ending valid.reads) each.ends)
+      let (ending, reads, ends) = in_time valid.input valid.requests valid.reads in
+      inl (comes_to_done valid.input valid.requests outcome ending each.requests each.last reads ends (each.each valid.requests ending reads) each.ends)
 
-  numbers_last : ServesDesk feeds made before (record after { sink = mid }) came.Spent → ⊥
+  numbers_last : ServesDesk feeds made before after came.Spent → ⊥
   numbers_last serves =
       let same : serves.opened ≡ history = opened_once made before.disk after.disk history has serves.opened serves.opens in
+      let (ending, reads, ends) = in_time valid.input valid.requests valid.reads in
       spent_never feeds made.airport (session_state before (new_port serves.opened before.disk.faults))
-      (session_state (record after { sink = mid }) serves.port) valid.input valid.told valid.requests valid.ending valid.reads serves.session refl serves.spent
+      (session_state after serves.port) valid.input valid.told valid.requests ending reads serves.session refl serves.spent
       (subst (λ (es : List Entry). next_after es + count_of_asks made.airport valid.requests ≤ call_limit) (sym same) valid.numbers)
 
-  session_well : (outcome : Outcome) → ServesDesk feeds made before (record after { sink = mid }) outcome
-      → TellsOutcome outcome mid after.sink status → Well status
-  session_well came.Memory serves tells = memory_well mid after.sink status tells
-  session_well came.Spent serves tells = absurd (numbers_last serves)
-  session_well other serves tells = other_well other (λ is. cc) (λ is. cc) serves tells
-
-  pub met_well : (met : Result Outcome Unusable) → MeetsDesk feeds made before (record after { sink = mid }) met
-      → PrintsSessionEnd met mid after.sink status → Well status
-  met_well (Ok outcome) meets tells = session_well outcome meets tells
-  met_well (Err why) meets tells = unopened_well why mid after.sink status (unopened_wants made before.disk after.disk history has why meets.uses disk) tells
-
--- a run of the word `desk`
-pub desk_well : (feeds : FeedTexts) (made : AirportFiles) (history : List Entry) (airport types : List ℕ) (before after : World) (status : Status) → HasFiles before.shelf airport types made
-    → HasJournal made before.disk history → HasInput made.airport before.source history → NoneFails before after → RunsDesk feeds airport types before after status → Well status
-desk_well feeds made history airport types before after status has journal valid free runs =
-    goes_well made before.shelf after.shelf airport types has free.shelf (λ found. RunsFound feeds found (record before { shelf = after.shelf }) after status) status
-    (λ does. met_well feeds made history (record before { shelf = after.shelf }) after does.sink status journal valid free.source free.sink free.disk does.met does.meets does.tells)
-    (λ does. memory_well before.sink after.sink status does.2) runs.found runs.finds runs.runs
+  pub desk_well : (end : End) → AtDesk feeds made before after end → Well (status_of end)
+  desk_well (Served came.Memory) at = inr refl
+  desk_well (Served came.Spent) (same, serves) = absurd (numbers_last serves)
+  desk_well (Served other) (same, serves) = other_well other (λ is. cc) (λ is. cc) serves
+  desk_well (Unworkable why) at = inr (unopened_wants made before.disk after.disk history has why at.uses disk)
+  desk_well end at = absurd at

@@ -4,7 +4,7 @@ use Rattle.std.specs.Prelude.{IfSome, cond, ◌||◌}
 use Rattle.std.specs.Str.{bytes_eq}
 use Rattle.std.proofs.lemmas.Slice.Eq.{bytes_eq-Decides}
 use Rattle.apron_base.specs.Counts.{Counts}
-use Rattle.history_core.specs.Board.{Spells, entry_texts}
+use Rattle.history_core.specs.Board.{entry_texts}
 use Rattle.std.specs.Option.{option_map}
 use Rattle.journal_disk.specs.Disk.{Between, Continues, DiskState, IfExposed, IsSafe, Stays}
 use Rattle.journal_disk.specs.Entries.{records}
@@ -19,27 +19,24 @@ use Rattle.apron_check.specs.declared.files.AirportFiles.{AirportFiles}
 use Rattle.apron_run.specs.Journal.{IsOf}
 use Rattle.apron_run.specs.Converted.{HasConverted}
 use Rattle.apron_run.specs.Upgrade.{HasUpgraded, NotUpgraded}
-use Rattle.apron_run.specs.UpgradeCrash.{LeavesEither, switched}
+use Rattle.apron_run.specs.UpgradeCrash.{LeavesEither}
 use Rattle.apron_run.specs.declared.unusable.Unusable.TheVariants.{Journal}
 use Rattle.apron_run.proofs.Disks.{if_told}
 use Rattle.apron_run.proofs.Fronts.{alike_both, alike_same, stays_from}
 use Rattle.apron_run.proofs.Headers.{told_before}
-use Rattle.apron_run.proofs.Converts.{converted_count, texts_are}
+use Rattle.apron_run.proofs.Converts.{converted_count, each_was, texts_are}
 
--- a journal of format 1 has passed the test of its digests, and its format byte is not that of
--- format 2
+-- a journal of format 1 has passed the test of its digests
 old_passed : (short starts same new : Bool) (one two : JournalFault) (read : Result (List (List ℕ)) JournalFault) (old : List (List ℕ))
-    → unless (cond (short || not starts) (Some one) (cond (not same) (Some two) None)) (cond new (Ok None) (as_old read)) ≡ Ok (Some old) → (same ≡ true) × (new ≡ false)
+    → unless (cond (short || not starts) (Some one) (cond (not same) (Some two) None)) (cond new (Ok None) (as_old read)) ≡ Ok (Some old) → same ≡ true
 old_passed true starts same new one two read old is = absurd cc
 old_passed false false same new one two read old is = absurd cc
 old_passed false true false new one two read old is = absurd cc
-old_passed false true true true one two read old is = absurd cc
-old_passed false true true false one two read old is = (refl, refl)
+old_passed false true true new one two read old is = refl
 
-old_header : (digests bytes : List ℕ) (old : List (List ℕ)) → old_opening_of digests bytes ≡ Ok (Some old) → IsOf digests bytes × (is_new bytes ≡ false)
+old_header : (digests bytes : List ℕ) (old : List (List ℕ)) → old_opening_of digests bytes ≡ Ok (Some old) → IsOf digests bytes
 old_header digests bytes old is =
-    let (same, format) = old_passed _ (has_magic bytes) (bytes_eq (digests_in bytes) digests) (is_new bytes) _ _ _ old is in
-    ((bytes_eq-Decides (digests_in bytes) digests).0 same, format)
+    (bytes_eq-Decides (digests_in bytes) digests).0 (old_passed _ (has_magic bytes) (bytes_eq (digests_in bytes) digests) (is_new bytes) _ _ _ old is)
 
 -- a journal that was not opened
 pub not_opened : (files : AirportFiles) (before after : DiskState) (fault : JournalFault) → OldOpenFails files.digests before after fault → Stays before after
@@ -64,12 +61,17 @@ IsFound state digests disk found =
     IfExposed (state disk) (λ bytes. old_opening_of digests bytes ≡ Ok (old_found found))
     × Stays (state disk) (state (disk_found found)) × Counts false (state disk).faults (state (disk_found found)).faults
 
+-- the bytes of a journal of format 1 with these old entries, once it was switched to format 2 with
+-- these new ones
+abbrev switched : List (List ℕ) → List (List ℕ) → List ℕ → List ℕ
+switched old new = after_switch (length (records old)) new
+
 -- a journal of format 1 that was opened and then switched
 module _ (files : AirportFiles) (before opened after : DiskState) (size : ℕ) (old new : List (List ℕ)) (sized : size ≡ length (records old))
     (was : IfExposed before (λ bytes. old_opening_of files.digests bytes ≡ Ok (Some old))) (stays : Stays before opened) (goes : Continues opened after)
     (safe : SwitchesSafely size old new opened after) where
   digests_are : (bytes : List ℕ) → before.contents ≡ Some bytes → digests_in bytes ≡ files.digests
-  digests_are bytes is = (old_header files.digests bytes old (was bytes is)).0
+  digests_are bytes is = old_header files.digests bytes old (was bytes is)
 
   -- what a crash leaves of it at any moment
   pub leaves_either : LeavesEither old new before after
@@ -115,19 +117,19 @@ module _ (files : AirportFiles) (before opened after : DiskState) (size : ℕ) (
         record {
           old = old;
           new = new;
-          format = if_told before.contents (λ bytes. is_new bytes ≡ false) (λ bytes is. (old_header files.digests bytes old (was bytes is)).1);
           was = if_told before.contents (λ bytes. old_opening_of files.digests bytes ≡ Ok (Some old)) was;
           converts = converted.converts;
           has = has;
           keeps = told_as (switched old new) before.contents after.contents leaves_either.tells (λ bytes now was is. switched_safe bytes was now (reads now is));
-          same = λ history reads_as.
-              let texts : new ≡ entry_texts history = texts_are files.airport old new history converted.converts reads_as.spells in
+          same = λ history legal spelt.
+              let texts : new ≡ entry_texts history = texts_are files.airport old new history converted.converts spelt in
               record {
-                legal = reads_as.legal;
+                legal = legal;
                 entries = subst (λ (es : List (List ℕ)). IfSome after.contents (λ bytes. opening_of files.digests bytes ≡ Ok es)) texts has;
-                spells = subst (λ (es : List (List ℕ)). Spells files.airport es history) texts (converted.reads ∙ reads_as.spells);
+                each = each_was files.airport history spelt.1;
               };
           count_is = count_is ∙ converted_count files.airport old new converted.converts;
           counts = counts;
-          leaves = record { either = leaves_either; last = switched_opens; safe = switched_safe };
+          leaves = leaves_either;
+          safe = switched_safe;
         }

@@ -1,14 +1,16 @@
 -- What is found if the two files make an airport and the disk has its journal.
-use Rattle.std.proofs.Common.{◌≡◌, ◌≢◌, ◌∙◌, ◌<◌, ◌≤◌, ◌⊎◌, ℕ, List, [], ◌∷◌, ◌++◌, append_assoc, length, map, Option, None, Some, Result, Ok, Err, inl, inr, refl, sym, ap, ap₂, subst, arith}
+use Rattle.std.proofs.Common.{◌≡◌, ◌≢◌, ◌∙◌, ◌<◌, ◌≤◌, ◌⊎◌, ℕ, List, [], ◌∷◌, ◌++◌, append_assoc, length, Option, None, Some, Result, Ok, Err, inl, inr, refl, sym, ap, ap₂, subst, arith}
 use Rattle.std.specs.Prelude.{IfSome, IsSome}
 use Rattle.apron_base.specs.Counts.{Rose}
+use Rattle.apron_base.specs.Histories.{Every}
 use Rattle.apron_base.specs.Keeper.{with_last}
 use Rattle.apron_base.specs.Shelf.{ShelfState}
 use Rattle.apron_rules.specs.declared.parts.AirportParts.{AirportParts}
 use Rattle.airport_files.specs.Meaning.{meaning}
 use Rattle.airport_files.specs.declared.read.FileFault.{FileFault}
 use Rattle.desk_asks.specs.declared.asks.Entry.{Entry}
-use Rattle.entry_bytes.specs.Entries.{decode_entry}
+use Rattle.entry_bytes.specs.Entries.{IsEntryOf, SpellsEntry, entry_text}
+use Rattle.entry_bytes.proofs.EntriesSpelt.{entries_are_different}
 use Rattle.history_core.specs.Board.{Spells, entry_texts}
 use Rattle.history_core.specs.History.{IsLegal}
 use Rattle.history_core.specs.Opening.{IsNotNext, StopsAt}
@@ -24,13 +26,23 @@ use Rattle.apron_check.specs.Files.{AreOfFile, HasFilesCause, IsFileTooLong, Mak
 use Rattle.apron_check.specs.declared.files.AirportFiles.{AirportFiles}
 use Rattle.apron_check.specs.declared.faults.FilesFault.{FilesFault}
 use Rattle.apron_check.specs.declared.faults.FilesFault.TheVariants as files
-use Rattle.apron_run.specs.Complete.{HasFiles, HasJournal}
+use Rattle.apron_run.specs.End.{status_of}
 use Rattle.apron_run.specs.Journal.{NotOpened, OpensTo, WhyUnusable}
-use Rattle.apron_run.specs.Unusable.{status_of_unusable}
+use Rattle.apron_run.specs.declared.end.End.TheVariants.{Unusable as Unworkable}
 use Rattle.apron_run.specs.declared.status.Status.TheVariants.{Memory}
 use Rattle.apron_run.specs.declared.unusable.Unusable.{Unusable}
 use Rattle.apron_run.specs.declared.unusable.Unusable.TheVariants.{Journal, Entries}
 use Rattle.apron_run.proofs.Disks.{if_told}
+
+-- the shelf tells the two files of these names, and they make this airport
+abbrev pub HasFiles : ShelfState → List ℕ → List ℕ → AirportFiles → Type 0
+HasFiles shelf airport types files = IsSome (shelf.file airport) × IsSome (shelf.file types)
+    × Make (shelf.file airport) (shelf.file types) files
+
+-- the disk tells what it reads as, and opens as the journal of these files with this history
+pub record HasJournal (files : AirportFiles) (disk : DiskState) (history : List Entry) : Type 0 where
+  pub told : IsSome disk.contents
+  pub opens : OpensTo files disk history
 
 -- a result is one value
 ok_once : {A E : Type 0} (result : Result A E) (one other : A) → result ≡ Ok one → result ≡ Ok other → one ≡ other
@@ -50,21 +62,21 @@ module _ (before after : ShelfState) (airport types : List ℕ) (made : AirportF
   -- the two files mean one thing
   meant_once : (meant : Result AirportParts FileFault) → Mean (before.file airport) (before.file types) meant → Ok made.airport ≡ meant
   meant_once meant mean =
-      let make : Make (before.file airport) (before.file types) made = has.make in
+      let make : Make (before.file airport) (before.file types) made = has.2 in
       let first : make.airport_bytes ≡ mean.airport_bytes =
-      same_bytes (before.file airport) make.airport_bytes mean.airport_bytes has.airport_told make.of_airport.told mean.of_airport.told in
+      same_bytes (before.file airport) make.airport_bytes mean.airport_bytes has.0 make.of_airport.told mean.of_airport.told in
       let second : make.types_bytes ≡ mean.types_bytes =
-      same_bytes (before.file types) make.types_bytes mean.types_bytes has.types_told make.of_types.told mean.of_types.told in
+      same_bytes (before.file types) make.types_bytes mean.types_bytes has.1 make.of_types.told mean.of_types.told in
       sym make.airport_is ∙ (ap₂ meaning first second ∙ mean.meant_is)
 
   -- and make one airport
   made_once : (other : AirportFiles) → Make (before.file airport) (before.file types) other → other ≡ made
   made_once other makes =
-      let make : Make (before.file airport) (before.file types) made = has.make in
+      let make : Make (before.file airport) (before.file types) made = has.2 in
       let first : makes.airport_bytes ≡ make.airport_bytes =
-      same_bytes (before.file airport) makes.airport_bytes make.airport_bytes has.airport_told makes.of_airport.told make.of_airport.told in
+      same_bytes (before.file airport) makes.airport_bytes make.airport_bytes has.0 makes.of_airport.told make.of_airport.told in
       let second : makes.types_bytes ≡ make.types_bytes =
-      same_bytes (before.file types) makes.types_bytes make.types_bytes has.types_told makes.of_types.told make.of_types.told in
+      same_bytes (before.file types) makes.types_bytes make.types_bytes has.1 makes.of_types.told make.of_types.told in
       let airports : other.airport ≡ made.airport =
       ok_once (meaning makes.airport_bytes makes.types_bytes) other.airport made.airport makes.airport_is (ap₂ meaning first second ∙ make.airport_is) in
       let digests : other.digests ≡ made.digests = makes.digests_are ∙ (ap₂ digests_of first second ∙ sym make.digests_are) in
@@ -86,64 +98,59 @@ module _ (before after : ShelfState) (airport types : List ℕ) (made : AirportF
   found_well (Ok other) cause failed = inl (ap Ok (made_once other cause))
   found_well (Err (files.Faulty fault)) cause failed = let same : Ok made.airport ≡ Err fault = meant_once (Err fault) cause in absurd cc
   found_well (Err files.AirportTooLong) cause failed =
-      let make : Make (before.file airport) (before.file types) made = has.make in
-      absurd (not_too_long (before.file airport) make.airport_bytes has.airport_told make.of_airport cause)
+      let make : Make (before.file airport) (before.file types) made = has.2 in
+      absurd (not_too_long (before.file airport) make.airport_bytes has.0 make.of_airport cause)
   found_well (Err files.TypesTooLong) cause failed =
-      let make : Make (before.file airport) (before.file types) made = has.make in
-      absurd (not_too_long (before.file types) make.types_bytes has.types_told make.of_types cause.1)
+      let make : Make (before.file airport) (before.file types) made = has.2 in
+      absurd (not_too_long (before.file types) make.types_bytes has.1 make.of_types cause.1)
   found_well (Err files.ShelfFault) cause failed = absurd (failed refl)
   found_well (Err files.Memory) cause failed = inr refl
 
--- entries are read as one history
-read_once : (airport : AirportParts) (texts : List (List ℕ)) (one other : List Entry) → Spells airport texts one → Spells airport texts other → one ≡ other
-read_once airport [] [] [] is are = refl
-read_once airport [] [] (y ∷ ys) is are = absurd cc
-read_once airport [] (x ∷ xs) other is are = absurd cc
-read_once airport (text ∷ texts) [] other is are = absurd cc
-read_once airport (text ∷ texts) (x ∷ xs) [] is are = absurd cc
-read_once airport (text ∷ texts) (x ∷ xs) (y ∷ ys) is are =
-    let first : decode_entry airport text ∷ map (decode_entry airport) texts ≡ Ok x ∷ map Ok xs = is in
-    let second : decode_entry airport text ∷ map (decode_entry airport) texts ≡ Ok y ∷ map Ok ys = are in
-    let head : x ≡ y = cc in
-    let one : map (decode_entry airport) texts ≡ map Ok xs = cc in
-    let two : map (decode_entry airport) texts ≡ map Ok ys = cc in
-    ap₂ (λ e es. e ∷ es) head (read_once airport texts xs ys one two)
+-- bytes are those of one history
+spelt_once : (airport : AirportParts) (one other : List Entry) → Every (IsEntryOf airport) one → Every (IsEntryOf airport) other → entry_texts one ≡ entry_texts other → one ≡ other
+spelt_once airport [] [] is are same = refl
+spelt_once airport [] (y ∷ ys) is are same = absurd cc
+spelt_once airport (x ∷ xs) [] is are same = absurd cc
+spelt_once airport (x ∷ xs) (y ∷ ys) is are same =
+    let both : entry_text x ∷ entry_texts xs ≡ entry_text y ∷ entry_texts ys = same in
+    let first : entry_text x ≡ entry_text y = cc in
+    let others : entry_texts xs ≡ entry_texts ys = cc in
+    ap₂ (λ e es. e ∷ es) (entries_are_different airport x y is.0 are.0 first) (spelt_once airport xs ys is.1 are.1 others)
 
--- an entry of a history that entries are read as, after those that the first of them are read as
+-- an entry of a history with these bytes, after those that the first bytes are of
 record IsReadNext (airport : AirportParts) (bytes : List ℕ) (before history : List Entry) : Type 0 where
   pub entry : Entry
   pub rest : List Entry
   pub are : history ≡ before ++ entry ∷ rest
-  pub is : decode_entry airport bytes ≡ Ok entry
+  pub is : SpellsEntry airport bytes entry
 
 read_next : (airport : AirportParts) (front : List (List ℕ)) (bytes : List ℕ) (back : List (List ℕ)) (before history : List Entry)
     → Spells airport (front ++ bytes ∷ back) history → Spells airport front before → IsReadNext airport bytes before history
-read_next airport [] bytes back [] [] all some = absurd cc
+read_next airport [] bytes back [] [] all some = let none : bytes ∷ back ≡ [] = all.0 in absurd cc
 read_next airport [] bytes back [] (e ∷ es) all some =
-    let both : decode_entry airport bytes ∷ map (decode_entry airport) back ≡ Ok e ∷ map Ok es = all in
-    let is : decode_entry airport bytes ≡ Ok e = cc in
-    record { entry = e; rest = es; are = refl; is = is }
-read_next airport [] bytes back (b ∷ bs) history all some = absurd cc
-read_next airport (f ∷ fs) bytes back [] history all some = absurd cc
-read_next airport (f ∷ fs) bytes back (b ∷ bs) [] all some = absurd cc
+    let both : bytes ∷ back ≡ entry_text e ∷ entry_texts es = all.0 in
+    let is : bytes ≡ entry_text e = cc in
+    record { entry = e; rest = es; are = refl; is = (all.1.0, is) }
+read_next airport [] bytes back (b ∷ bs) history all some = let none : [] ≡ entry_text b ∷ entry_texts bs = some.0 in absurd cc
+read_next airport (f ∷ fs) bytes back [] history all some = let none : f ∷ fs ≡ [] = some.0 in absurd cc
+read_next airport (f ∷ fs) bytes back (b ∷ bs) [] all some = let none : f ∷ (fs ++ bytes ∷ back) ≡ [] = all.0 in absurd cc
 read_next airport (f ∷ fs) bytes back (b ∷ bs) (e ∷ es) all some =
-    let whole : decode_entry airport f ∷ map (decode_entry airport) (fs ++ bytes ∷ back) ≡ Ok e ∷ map Ok es = all in
-    let part : decode_entry airport f ∷ map (decode_entry airport) fs ≡ Ok b ∷ map Ok bs = some in
-    let head : e ≡ b = cc in
-    let more : map (decode_entry airport) (fs ++ bytes ∷ back) ≡ map Ok es = cc in
-    let few : map (decode_entry airport) fs ≡ map Ok bs = cc in
-    let next : IsReadNext airport bytes bs es = read_next airport fs bytes back bs es more few in
+    let whole : f ∷ (fs ++ bytes ∷ back) ≡ entry_text e ∷ entry_texts es = all.0 in
+    let part : f ∷ fs ≡ entry_text b ∷ entry_texts bs = some.0 in
+    let first : entry_text e ≡ entry_text b = cc in
+    let head : e ≡ b = entries_are_different airport e b all.1.0 some.1.0 first in
+    let more : fs ++ bytes ∷ back ≡ entry_texts es = cc in
+    let few : fs ≡ entry_texts bs = cc in
+    let next : IsReadNext airport bytes bs es = read_next airport fs bytes back bs es (more, all.1.1) (few, some.1.1) in
     let are : e ∷ es ≡ b ∷ bs ++ next.entry ∷ next.rest = cc (next.are) in
     record { entry = next.entry; rest = next.rest; are = are; is = next.is }
 
--- no entry stops those that are read as a legal history
+-- no entry stops those of a legal history
 module _ (airport : AirportParts) (texts : List (List ℕ)) (history : List Entry) (spells : Spells airport texts history) (legal : IsLegal airport history) where
   not_next : (before : List Entry) (bytes : List ℕ) (fault : OpenFault) → IsReadNext airport bytes before history → fault ≢ entries.Memory → IsNotNext airport before bytes fault → ⊥
-  not_next before bytes (entries.BadEntry number) next other (counted, (fault, unread)) =
-      let both : Ok next.entry ≡ Err fault = sym next.is ∙ unread in absurd cc
-  not_next before bytes (entries.WrongEntry number) next other (counted, (entry, read, wrong)) =
-      let both : Ok next.entry ≡ Ok entry = sym next.is ∙ read in
-      let same : next.entry ≡ entry = cc in
+  not_next before bytes (entries.BadEntry number) next other (counted, none) = none next.entry next.is.0 next.is.1
+  not_next before bytes (entries.WrongEntry number) next other (counted, (entry, spelt, wrong)) =
+      let same : next.entry ≡ entry = entries_are_different airport next.entry entry next.is.0 spelt.0 (sym next.is.1 ∙ spelt.1) in
       let parts : history ≡ with_last next.entry before ++ next.rest = next.are ∙ sym (append_assoc before (next.entry ∷ []) next.rest) in
       let front : IsLegal airport (with_last next.entry before) = front_legal airport (with_last next.entry before) next.rest (subst (IsLegal airport) parts legal) in
       wrong (subst (λ (e : Entry). IsLegal airport (with_last e before)) same front)
@@ -163,7 +170,7 @@ module _ (made : AirportFiles) (before after : DiskState) (history : List Entry)
       let (bytes, one, other) = both_told before.contents (λ bytes. opening_of made.digests bytes ≡ Ok (entry_texts opened))
       (λ bytes. opening_of made.digests bytes ≡ Ok (entry_texts history)) has.told opens.entries known.entries in
       let texts : entry_texts opened ≡ entry_texts history = ok_once (opening_of made.digests bytes) (entry_texts opened) (entry_texts history) one other in
-      read_once made.airport (entry_texts history) opened history (subst (λ (es : List (List ℕ)). Spells made.airport es opened) texts opens.spells) known.spells
+      spelt_once made.airport opened history opens.each known.each texts
 
   opens_well : (fault : JournalFault) → IfExposed before (λ bytes. opening_of made.digests bytes ≡ Err fault) → ⊥
   opens_well fault fails =
@@ -186,16 +193,16 @@ module _ (made : AirportFiles) (before after : DiskState) (history : List Entry)
   reads_well texts fault opening other stops =
       let known = has.opens in
       let same : entry_texts history ≡ texts = opens_to_texts texts opening in
-      none_stops made.airport texts history (subst (λ (es : List (List ℕ)). Spells made.airport es history) same known.spells) known.legal fault other stops
+      none_stops made.airport texts history (sym same, known.each) known.legal fault other stops
 
   -- if the disk doesn't fail, it is not opened only if memory has run out
-  pub unopened_wants : (why : Unusable) → NotOpened made before after why → ¬ (Rose before.faults after.faults) → status_of_unusable why ≡ Memory
+  pub unopened_wants : (why : Unusable) → NotOpened made before after why → ¬ (Rose before.faults after.faults) → status_of (Unworkable why) ≡ Memory
   unopened_wants why finds still = wants why finds.cause
     where
-      wants : (why : Unusable) → WhyUnusable made before after why → status_of_unusable why ≡ Memory
+      wants : (why : Unusable) → WhyUnusable made before after why → status_of (Unworkable why) ≡ Memory
       wants (Journal journal.DiskFault) cause = absurd (still cause.1)
       wants (Journal journal.NotEmpty) cause = absurd cause
       wants (Journal journal.Memory) cause = refl
       wants (Journal fault) (counts, fails) = absurd (opens_well fault fails)
       wants (Entries entries.Memory) cause = refl
-      wants (Entries fault) (texts, vain, cannot) = absurd (reads_well texts fault vain.opening (λ is. cc) cannot)
+      wants (Entries fault) (texts, opening, counts, cannot) = absurd (reads_well texts fault opening (λ is. cc) cannot)

@@ -5,14 +5,11 @@ use Rattle.wall_chart.specs.Chart.{chart_text}
 use Rattle.desk_asks.specs.declared.asks.Entry.{Entry}
 use Rattle.history_core.specs.History.{replay}
 use Rattle.apron_check.specs.declared.files.AirportFiles.{AirportFiles}
-use Rattle.apron_run.specs.End.{End, EndsUntouched, unasked}
+use Rattle.apron_run.specs.End.{EndsUntouched}
 use Rattle.apron_run.specs.PlanText.{AtPlan}
-use Rattle.apron_run.specs.Words.{number_within}
 use Rattle.apron_run.specs.World.{World}
-
--- the day of the plan that the digits name, if they name one: 1 is its first
-abbrev pub day_named : AirportParts → List ℕ → Option ℕ
-day_named airport text = number_within text 1 airport.days
+use Rattle.apron_run.specs.declared.end.End.{End}
+use Rattle.apron_run.specs.declared.end.End.TheVariants as ended
 
 -- the wall chart of a day, of the plan that the history makes
 abbrev pub IsChart : ℕ → AirportParts → List Entry → List ℕ → Type 0
@@ -21,5 +18,5 @@ IsChart day airport history text = text ≡ chart_text airport (replay airport h
 -- what the word does at these files: the chart of a day of the plan in their journal is printed, if
 -- there is such a day
 abbrev pub AtDay : AirportFiles → Option ℕ → World → World → End → Type 0
-AtDay files (Some day) before after end = AtPlan (IsChart day) files before after end
-AtDay files None before after end = EndsUntouched unasked before after end
+AtDay files (Some day) = AtPlan (IsChart day) files
+AtDay files None = EndsUntouched ended.Unasked

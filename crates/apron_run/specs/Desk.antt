@@ -1,27 +1,21 @@
 -- What the word `desk` does: one session of a desk alone at an airport, on its journal on the disk.
-use Rattle.std.specs.Prelude.{◌≡◌, ◌==◌, ◌+◌, ◌≤◌, ℕ, List, [], length, true, MatchBool, None}
-use Rattle.apron_base.specs.Counts.{Counts}
+use Rattle.std.specs.Prelude.{◌≡◌, ◌==◌, ◌+◌, ℕ, List, [], ◌++◌, length, true, None}
 use Rattle.apron_base.specs.declared.outside.Outcome.{Outcome}
-use Rattle.apron_rules.specs.declared.parts.AirportParts.{AirportParts}
-use Rattle.http_framing.specs.Requests.{Request}
 use Rattle.desk_asks.specs.declared.asks.Entry.{Entry}
-use Rattle.history_core.specs.History.{call_limit}
+use Rattle.history_core.specs.History.{IsLegal, IsSoundPlan, call_limit, replay}
 use Rattle.history_core.specs.Opening.{next_after}
 use Rattle.desk_http.specs.Alone.{AloneAsks}
-use Rattle.desk_http.specs.Answers.{Answered}
 use Rattle.desk_http.specs.FedSession.{FedAnswers}
 use Rattle.desk_http.specs.Ports.{PortState}
 use Rattle.desk_http.specs.Session.{SessionState, SessionBy}
 use Rattle.desk_workers.specs.Alone.{AloneFeeds}
 use Rattle.desk_workers.specs.Watched.{FeedTexts}
 use Rattle.apron_check.specs.declared.files.AirportFiles.{AirportFiles}
-use Rattle.apron_check.specs.declared.faults.FilesFault.TheVariants as files
-use Rattle.apron_run.specs.End.{End, served, unusable}
 use Rattle.apron_run.specs.Journal.{KeepsHistory, NoJournal, OpensTo}
-use Rattle.apron_run.specs.Statuses.{is_disk_fault, may_serve}
 use Rattle.apron_run.specs.Survival.{Survives}
 use Rattle.apron_run.specs.World.{World}
-use Rattle.apron_run.specs.declared.status.Status.{Status}
+use Rattle.apron_run.specs.declared.end.End.{End}
+use Rattle.apron_run.specs.declared.end.End.TheVariants as ended
 
 -- what a session knows of its ends and of its port
 abbrev pub session_state : World → PortState → SessionState
@@ -39,37 +33,40 @@ new_port opened faults = record {
   faults = faults;
 }
 
--- the disk's count of faults: it may rise in a session, and the replies then say so; it rose if the
--- status says that the disk failed; otherwise it is as before
-abbrev pub ServedCounts : Status → ℕ → ℕ → Type 0
-ServedCounts status before now =
-    MatchBool (may_serve status) (before ≤ now) (Counts (is_disk_fault status) before now)
-
 -- `feeds` says what the reply to each feed is, by the airport and the history
 module _ (feeds : FeedTexts) where
-  -- what comes of a request to a desk alone at the airport, and its port after it
-  abbrev pub DeskAnswers : AirportParts → PortState → Request → Answered → PortState → Type 0
-  DeskAnswers airport before request answered after =
-      FedAnswers AloneAsks (AloneFeeds (feeds airport)) airport before request answered after
-
-  -- One session with feeds of a desk alone: it began with the history that the disk opened to, and
-  -- left the disk with the history at its end, which survives a crash. If the desk's call numbers
-  -- ran out, all of them were used.
+  -- The headline for one desk. The journal of the files opened to a legal history. The session
+  -- answered the requests at the front of the bytes that it took, in order, and wrote the replies,
+  -- byte for byte, up to where its outcome says. A request that asks nothing of the plan, and for
+  -- no feed, has its fixed reply. Each other one has the next call number, from one above the last
+  -- entry's on, and its answer at the plan and the history as they then were; or in its place the
+  -- reply that memory has run out, or, to a command that the plan accepts, that its entry could not
+  -- be kept. The disk's count of faults rises exactly at the last. If the call numbers ran out, all
+  -- of them were used. The history at the end is legal, begins with the one that was opened, and
+  -- survives a crash, and after each of its entries the plan is sound. The disk is the journal of
+  -- the same files with it; or, if it has failed, with it and perhaps the entry of a request whose
+  -- reply said that it could not be kept, after which none was added, and with which it is legal.
   pub record ServesDesk (files : AirportFiles) (before after : World)
       (outcome : Outcome) : Type 0 where
     pub opened : List Entry
     pub opens : OpensTo files before.disk opened
     pub port : PortState
-    pub session : SessionBy (DeskAnswers files.airport) files.airport
+    pub session : SessionBy
+        (FedAnswers AloneAsks (AloneFeeds (feeds files.airport)) files.airport) files.airport
         (session_state before (new_port opened before.disk.faults)) (session_state after port) outcome
     pub spent : port.spent ≡ true → port.first + length port.calls ≡ call_limit
     pub faults : port.faults ≡ after.disk.faults
+    pub begins : (added : List Entry) × (port.seen ≡ opened ++ added)
+    pub legal : IsLegal files.airport port.seen
+    pub sound : (front back : List Entry)
+        → port.seen ≡ front ++ back
+        → IsSoundPlan (replay files.airport front)
     pub keeps : KeepsHistory files port.seen port.at_risk after.disk
     pub survives : Survives files.digests port.seen port.at_risk before.disk after.disk
 
   -- what the word does at these files: a session on their journal
   abbrev pub AtDesk : AirportFiles → World → World → End → Type 0
-  AtDesk files before after (served outcome) = (after.shelf ≡ before.shelf)
+  AtDesk files before after (ended.Served outcome) = (after.shelf ≡ before.shelf)
       × ServesDesk files before after outcome
-  AtDesk files before after (unusable why) = NoJournal files why before after
+  AtDesk files before after (ended.Unusable why) = NoJournal files why before after
   AtDesk files before after end = ⊥

@@ -1,19 +1,18 @@
 -- What the word `import` does: the visits of a season file are added to the plan in a journal.
-use Rattle.std.specs.Prelude.{◌≡◌, ◌<◌, ◌≤◌, ◌+◌, ℕ, Bool, true, false, List, length, Option, None, IfSome, MatchOption, Result, Ok, Err}
+use Rattle.std.specs.Prelude.{◌≡◌, ◌<◌, ◌≤◌, ◌+◌, ℕ, Bool, true, false, List, length, Option, IfSome, MatchOption, MatchResult, Result, Ok, Err}
 use Rattle.apron_base.specs.Counts.{Counts, RoseBy}
 use Rattle.apron_base.specs.Shelf.{ShelfState}
 use Rattle.apron_rules.specs.declared.parts.AirportParts.{AirportParts}
 use Rattle.visit_book.specs.declared.visits.NewVisit.{NewVisit}
 use Rattle.season_files.specs.Seasons.{season_in}
 use Rattle.desk_asks.specs.declared.asks.Entry.{Entry}
-use Rattle.history_core.specs.History.{IsLegal}
-use Rattle.history_core.specs.Opening.{next_after}
 use Rattle.apron_check.specs.declared.files.AirportFiles.{AirportFiles}
-use Rattle.apron_run.specs.Asking.{AsksSeason, Reached}
-use Rattle.apron_run.specs.End.{End, imported as import_end, unusable}
+use Rattle.apron_run.specs.Asking.{AsksSeason, Reached, opened_board}
 use Rattle.apron_run.specs.Journal.{KeepsHistory, NoJournal, OpensTo}
 use Rattle.apron_run.specs.Survival.{Survives}
 use Rattle.apron_run.specs.World.{World}
+use Rattle.apron_run.specs.declared.end.End.{End}
+use Rattle.apron_run.specs.declared.end.End.TheVariants as ended
 use Rattle.apron_run.specs.declared.imported.Imported.{Imported}
 use Rattle.apron_run.specs.declared.imported.Imported.TheVariants.{ShelfFault, TooLong, Refused, Memory}
 
@@ -30,13 +29,8 @@ pub record Tells (airport : AirportParts) (file : Option (List ℕ))
   pub short : length bytes ≤ most_season
   pub season_is : season_in airport bytes ≡ season
 
--- the file has more than the most bytes; if the shelf doesn't tell it, more were read
-abbrev pub IsSeasonTooLong : Option (List ℕ) → ShelfState → ShelfState → Type 0
-IsSeasonTooLong file before after =
-    MatchOption file (RoseBy (most_season + 1) before.read after.read)
-    (λ kept. most_season < length kept)
-
--- what is found in the season file of a name: its visits, or why none are asked. Running out of
+-- what is found in the season file of a name: its visits, or why none are asked. A file that is too
+-- long has more than the most bytes; if the shelf doesn't tell it, more were read. Running out of
 -- memory needs no cause; a failing shelf has its count of faults
 abbrev pub HasSeasonCause : AirportParts → List ℕ → ShelfState → ShelfState
     → Result (List NewVisit) Imported → Type 0
@@ -45,7 +39,8 @@ HasSeasonCause airport season before after (Ok visits) =
 HasSeasonCause airport season before after (Err (Refused number)) =
     Tells airport (before.file season) (Err number)
 HasSeasonCause airport season before after (Err TooLong) =
-    IsSeasonTooLong (before.file season) before after
+    MatchOption (before.file season) (RoseBy (most_season + 1) before.read after.read)
+    (λ kept. most_season < length kept)
 HasSeasonCause airport season before after (Err ShelfFault) = Unit {0}
 HasSeasonCause airport season before after (Err Memory) = Unit {0}
 HasSeasonCause airport season before after (Err imported) = ⊥
@@ -64,25 +59,9 @@ pub record FindsSeason (airport : AirportParts) (season : List ℕ) (before afte
   pub more : before.read ≤ after.read
   pub kept : (name : List ℕ) → after.file name ≡ before.file name
 
--- the visits that were found were asked to be added; if none were found nothing was asked
-abbrev pub AsksFound : AirportParts → Result (List NewVisit) Imported → Reached → Reached → Imported
-    → Type 0
-AsksFound airport (Ok visits) before after imported =
-    AsksSeason airport visits before after imported
-AsksFound airport (Err why) before after imported = (after ≡ before) × (imported ≡ why)
-
--- an import that has asked nothing yet: no entry is at risk, its calls go on from the last entry's
--- number, and the disk has failed this often
-abbrev pub new_import : List Entry → ℕ → Reached
-new_import opened faults = record {
-  history = opened;
-  at_risk = None;
-  next = next_after opened;
-  faults = faults;
-}
-
--- One import: it began with the history that the disk opened to, asked what it found in the season
--- file, and left the disk with the history as it then was, which survives a crash.
+-- One import: it began with the history that the disk opened to, asked for the visits that it found
+-- in the season file, if any, with call numbers from one above the last entry's on, and left the
+-- disk with the history as it then was, which survives a crash.
 pub record ImportsSeason (files : AirportFiles) (season : List ℕ) (before after : World)
     (imported : Imported) : Type 0 where
   pub opened : List Entry
@@ -90,16 +69,18 @@ pub record ImportsSeason (files : AirportFiles) (season : List ℕ) (before afte
   pub found : Result (List NewVisit) Imported
   pub finds : FindsSeason files.airport season before.shelf after.shelf found
   pub left : Reached
-  pub asks : AsksFound files.airport found (new_import opened before.disk.faults) left imported
-  pub legal : IsLegal files.airport left.history
+  pub asks : MatchResult found
+      (λ visits. AsksSeason files.airport visits
+      (opened_board files.airport opened before.disk.faults) left imported)
+      (λ why. (left ≡ opened_board files.airport opened before.disk.faults) × (imported ≡ why))
   pub faults : left.faults ≡ after.disk.faults
   pub keeps : KeepsHistory files left.history left.at_risk after.disk
   pub survives : Survives files.digests left.history left.at_risk before.disk after.disk
 
 -- what the word does at these files: an import into their journal
 abbrev pub AtSeason : List ℕ → AirportFiles → World → World → End → Type 0
-AtSeason season files before after (import_end how) =
+AtSeason season files before after (ended.Imported how) =
     (after.source ≡ before.source) × (after.sink ≡ before.sink)
     × ImportsSeason files season before after how
-AtSeason season files before after (unusable why) = NoJournal files why before after
+AtSeason season files before after (ended.Unusable why) = NoJournal files why before after
 AtSeason season files before after end = ⊥

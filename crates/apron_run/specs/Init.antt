@@ -5,9 +5,10 @@ use Rattle.journal_disk.specs.Disk.{DiskState, IfExposed, IsSafe, Stays}
 use Rattle.journal_disk.specs.Header.{empty_journal}
 use Rattle.journal_disk.specs.declared.fault.JournalFault.TheVariants as journal
 use Rattle.apron_check.specs.declared.files.AirportFiles.{AirportFiles}
-use Rattle.apron_run.specs.End.{End, printed, unusable}
 use Rattle.apron_run.specs.Print.{made_text}
 use Rattle.apron_run.specs.World.{OnDisk, Unwritten, World}
+use Rattle.apron_run.specs.declared.end.End.{End}
+use Rattle.apron_run.specs.declared.end.End.TheVariants as ended
 use Rattle.apron_run.specs.declared.unusable.Unusable.TheVariants.{Journal}
 
 -- the disk was empty, and is now the journal with no entry of the files of these digests, which is
@@ -18,22 +19,14 @@ pub record IsJournalMade (digests : List ℕ) (before after : DiskState) : Type 
   pub safe : IfExposed before (λ _. IsSafe (empty_journal digests) after)
   pub counts : Counts false before.faults after.faults
 
--- the disk had bytes already, and has them still
-pub record HadBytes (before after : DiskState) : Type 0 where
-  pub bytes : IfSome before.contents (λ bytes. length bytes ≢ 0)
-  pub unwritten : Unwritten before after
-
--- the disk failed; if it had bytes nothing was written
-pub record FailedUnmade (before after : DiskState) : Type 0 where
-  pub spares : IfSome before.contents (λ bytes. length bytes ≢ 0 → Stays before after)
-  pub counts : Counts true before.faults after.faults
-
--- what the word does at these files: a journal was made of them, or refused since the disk failed
--- or wasn't empty
+-- what the word does at these files: a journal was made of them; or the disk failed, and if it had
+-- bytes nothing was written; or it had bytes, and has them still
 abbrev pub AtInit : AirportFiles → World → World → End → Type 0
-AtInit files before after (printed text) = (text ≡ made_text)
+AtInit files before after (ended.Printed text) = (text ≡ made_text)
     × OnDisk (IsJournalMade files.digests) before after
-AtInit files before after (unusable (Journal journal.DiskFault)) =
-    OnDisk FailedUnmade before after
-AtInit files before after (unusable (Journal journal.NotEmpty)) = OnDisk HadBytes before after
+AtInit files before after (ended.Unusable (Journal journal.DiskFault)) = OnDisk (λ old new.
+    IfSome old.contents (λ bytes. length bytes ≢ 0 → Stays old new)
+    × Counts true old.faults new.faults) before after
+AtInit files before after (ended.Unusable (Journal journal.NotEmpty)) = OnDisk (λ old new.
+    IfSome old.contents (λ bytes. length bytes ≢ 0) × Unwritten old new) before after
 AtInit files before after end = ⊥

@@ -1,9 +1,11 @@
 -- The journal of an airport on a disk: what it opens to, why not, and what a disk has of a history.
 use Rattle.std.specs.Prelude.{◌≡◌, ◌⊎◌, ℕ, List, false, Option, Some, IfSome, Ok}
 use Rattle.apron_base.specs.Counts.{Counts}
+use Rattle.apron_base.specs.Histories.{Every}
 use Rattle.apron_base.specs.Keeper.{with_last}
 use Rattle.desk_asks.specs.declared.asks.Entry.{Entry}
-use Rattle.history_core.specs.Board.{Spells, entry_texts}
+use Rattle.entry_bytes.specs.Entries.{IsEntryOf}
+use Rattle.history_core.specs.Board.{entry_texts}
 use Rattle.history_core.specs.History.{IsLegal}
 use Rattle.history_core.specs.Opening.{CannotOpen}
 use Rattle.journal_disk.specs.Disk.{DiskState, Stays}
@@ -15,26 +17,21 @@ use Rattle.apron_run.specs.declared.unusable.Unusable.{Unusable}
 use Rattle.apron_run.specs.declared.unusable.Unusable.TheVariants.{Journal, Entries}
 
 -- if the disk tells what it reads as, it is the journal of these files, with both their digests in
--- its header, and its entries are exactly those of this legal history, which is what they are read
--- as
+-- its header, and its entries are exactly those of this legal history, each one of the airport
 pub record OpensTo (files : AirportFiles) (disk : DiskState) (opened : List Entry) : Type 0 where
   pub legal : IsLegal files.airport opened
   pub entries : IfSome disk.contents
       (λ bytes. opening_of files.digests bytes ≡ Ok (entry_texts opened))
-  pub spells : Spells files.airport (entry_texts opened) opened
+  pub each : Every (IsEntryOf files.airport) opened
 
--- the disk opens as the journal of the files, and no board is opened over its entries
-pub record OpensInVain (files : AirportFiles) (before after : DiskState)
-    (entries : List (List ℕ)) : Type 0 where
-  pub opening : IfSome before.contents (λ bytes. opening_of files.digests bytes ≡ Ok entries)
-  pub counts : Counts false before.faults after.faults
-
--- why there is no journal of these files to work on
+-- why there is no journal of these files to work on: the disk doesn't open as one, or no board is
+-- opened over its entries
 abbrev pub WhyUnusable : AirportFiles → DiskState → DiskState → Unusable → Type 0
 WhyUnusable files before after (Journal fault) = OpenFails files.digests before after fault
 WhyUnusable files before after (Entries fault) =
     (entries : List (List ℕ))
-    × OpensInVain files before after entries
+    × IfSome before.contents (λ bytes. opening_of files.digests bytes ≡ Ok entries)
+    × Counts false before.faults after.faults
     × CannotOpen files.airport entries fault
 
 -- no board was opened, and nothing was written

@@ -6,7 +6,6 @@ pub mod Print
 pub mod Unusable
 pub mod Imported
 pub mod End
-pub mod Check
 pub mod TwoFiles
 pub mod Init
 pub mod Journal
@@ -25,8 +24,6 @@ pub mod Converting
 pub mod Converted
 pub mod UpgradeCrash
 pub mod Upgrade
-pub mod Headline
 pub mod Run
-pub mod Carried
 pub mod Complete
 pub mod Causes

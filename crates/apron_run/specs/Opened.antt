@@ -30,5 +30,5 @@ pub record IsOpened {K : Type 0} (tells : K → KeeperState) (files : AirportFil
   pub airport_is : board.airport ≡ files.airport
   pub opens : OpensTo files disk board.history
   pub next : board.next ≡ next_after board.history
-  pub at_risk : (tells board.keeper).at_risk ≡ None
+  pub at_risk : board.at_risk ≡ None
   pub faults : (tells board.keeper).faults ≡ disk.faults

@@ -1,6 +1,9 @@
--- What the words that print a text print, and how.
-use Rattle.std.specs.Prelude.{◌≡◌, ◌⊎◌, ℕ, true, false, List, take, codes}
+-- What is printed, and how.
+use Rattle.std.specs.Prelude.{◌≡◌, ◌⊎◌, ℕ, true, false, List, ◌++◌, take, codes, decimal}
 use Rattle.apron_base.specs.Ends.{SinkState, Wrote}
+use Rattle.apron_check.specs.Lines.{counts_line}
+use Rattle.apron_run.specs.declared.print.Kind.{Kind}
+use Rattle.apron_run.specs.declared.print.Kind.TheVariants.{Help, Version, NewJournal, Already, Made, Counts, Upgraded}
 use Rattle.apron_run.specs.declared.status.Status.{Status}
 
 -- a text was written whole, with its status; or the sink failed and a front of it was written, with
@@ -26,3 +29,21 @@ made_text = codes "ok\n"
 -- what is printed for words that ask for nothing that there is
 unfoldable pub usage_text : List ℕ
 usage_text = codes "usage\n"
+
+-- what is printed after an upgrade, with the number of entries
+abbrev pub upgraded_text : ℕ → List ℕ
+upgraded_text count = (codes "upgraded " ++ decimal count) ++ codes "\n"
+
+-- what is printed for a journal that is of format 2 already
+unfoldable pub already_text : List ℕ
+already_text = codes "already format 2\n"
+
+-- the bytes of a text that is printed
+abbrev pub text_of : Kind → List ℕ
+text_of Help = help_text
+text_of Version = version_text
+text_of NewJournal = made_text
+text_of Already = already_text
+text_of (Made text) = text
+text_of (Counts files) = counts_line files.airport
+text_of (Upgraded count) = upgraded_text count

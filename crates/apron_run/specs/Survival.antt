@@ -2,7 +2,6 @@
 use Rattle.std.specs.Prelude.{◌≡◌, ◌⊎◌, ◌<◌, ◌≤◌, ◌+◌, ℕ, List, length, take, Option, Some, IfSome, Ok}
 use Rattle.apron_base.specs.Keeper.{KeeperState, with_last}
 use Rattle.desk_asks.specs.declared.asks.Entry.{Entry}
-use Rattle.entry_bytes.specs.Entries.{entry_text}
 use Rattle.history_core.specs.Board.{entry_texts}
 use Rattle.journal_disk.specs.Disk.{DiskState, EachImage, IfExposed, TellsAlike}
 use Rattle.journal_disk.specs.Header.{opening_of}
@@ -12,22 +11,6 @@ abbrev pub EachImageFrom : ℕ → ℕ → DiskState → (List ℕ → Type 0) �
 EachImageFrom first last disk P =
     (moment : ℕ) (image : List ℕ)
     → first ≤ moment → moment ≤ last → disk.images moment image → P image
-
--- the image opens, as the journal of the files of these digests, to these entries, or to these and
--- one more of which this is true
-abbrev pub OpensWith : List ℕ → List (List ℕ) → (List ℕ → Type 0) → List ℕ → Type 0
-OpensWith digests entries IsMore image =
-    (opening_of digests image ≡ Ok entries)
-    ⊎ ((more : List ℕ) × IsMore more × (opening_of digests image ≡ Ok (with_last more entries)))
-
--- the image opens to the first of these entries, this number of them or one more; or, if a call of
--- the disk has failed, to this number of them and another entry
-abbrev pub OpensToFront : List ℕ → List (List ℕ) → Type 0 → ℕ → List ℕ → Type 0
-OpensToFront digests entries HasFailed sure image =
-    (opening_of digests image ≡ Ok (take sure entries))
-    ⊎ ((sure < length entries) × (opening_of digests image ≡ Ok (take (sure + 1) entries)))
-    ⊎ (HasFailed × (more : List ℕ)
-    × (opening_of digests image ≡ Ok (with_last more (take sure entries))))
 
 -- What a crash may leave of a journal that was opened in a call, up to now, if the bytes of its
 -- disk tell its entries. Up to the moment at which it was open: what it could leave when the call
@@ -49,15 +32,15 @@ pub record LeavesFronts (digests : List ℕ) (entries : List ℕ → List (List 
   pub all : IfExposed now (λ bytes. sure now.moment ≡ length (entries bytes))
   pub later : IfExposed now (λ bytes. (at : ℕ) (image : List ℕ)
       → moment ≤ at → at ≤ now.moment → now.images at image
-      → OpensToFront digests (entries bytes) (1 ≤ now.faults) (sure at) image)
+      → (opening_of digests image ≡ Ok (take (sure at) (entries bytes)))
+      ⊎ ((sure at < length (entries bytes))
+      × (opening_of digests image ≡ Ok (take (sure at + 1) (entries bytes))))
+      ⊎ ((1 ≤ now.faults) × (more : List ℕ)
+      × (opening_of digests image ≡ Ok (with_last more (take (sure at) (entries bytes))))))
 
 -- an entry is at risk only if a call of the disk has failed
 abbrev pub RisksIfFailed : KeeperState → Type 0
 RisksIfFailed keeper = IfSome keeper.at_risk (λ text. 1 ≤ keeper.faults)
-
--- these are the bytes of the entry at risk
-abbrev pub IsTextOf : Option Entry → List ℕ → Type 0
-IsTextOf at_risk text = (entry : Entry) × (at_risk ≡ Some entry) × (text ≡ entry_text entry)
 
 -- What a crash may leave of the journal of the files of these digests, which a run opened and left
 -- with this history and this entry at risk: during the run, as just said; and after it the history,
@@ -65,5 +48,7 @@ IsTextOf at_risk text = (entry : Entry) × (at_risk ≡ Some entry) × (text ≡
 pub record Survives (digests : List ℕ) (history : List Entry) (at_risk : Option Entry)
     (before after : DiskState) : Type 0 where
   pub fronts : LeavesFronts digests (λ bytes. entry_texts history) before after
-  pub last : IfExposed after (λ bytes.
-      EachImage after (OpensWith digests (entry_texts history) (IsTextOf at_risk)))
+  pub last : IfExposed after (λ bytes. EachImage after (λ image.
+      (opening_of digests image ≡ Ok (entry_texts history))
+      ⊎ ((entry : Entry) × (at_risk ≡ Some entry)
+      × (opening_of digests image ≡ Ok (entry_texts (with_last entry history))))))

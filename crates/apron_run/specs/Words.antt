@@ -43,14 +43,11 @@ is_plain_number text =
     nat_le 1 (length text) && list_all is_ascii_digit text
     && not (nat_le 2 (length text) && slice_index text 0 == 48)
 
--- the number, if it is from the first to the last
-abbrev pub if_within : ℕ → ℕ → ℕ → Option ℕ
-if_within first last number =
-    if nat_le first number && nat_le number last then Some number else None
-
 -- the number from the first to the last that the digits write, if they write one
 abbrev pub number_within : List ℕ → ℕ → ℕ → Option ℕ
-number_within text first last = option_and_then (if_within first last) (number_of text most_digits)
+number_within text first last = option_and_then
+    (λ number. if nat_le first number && nat_le number last then Some number else None)
+    (number_of text most_digits)
 
 -- such digits, of a number from the first to the last
 unfoldable pub is_number : ℕ → ℕ → List ℕ → Bool
@@ -97,23 +94,6 @@ subcommand_of words = unwrap_or (asked_by forms words) faulty
 abbrev pub ends_at_files : ℕ → Bool
 ends_at_files code = code == exit_code FileFault || code == exit_code ShelfFault
 
--- the program ends with this number since there is no airport, or no journal of it
-abbrev pub ends_at_journal : ℕ → Bool
-ends_at_journal code =
-    ends_at_files code || code == exit_code DiskFault || code == exit_code JournalFault
-
--- the program ends with this number before it comes to making a journal
-abbrev pub ends_before_journal : ℕ → Bool
-ends_before_journal code = ends_at_files code || code == exit_code Memory
-
--- the program ends with this number before it comes to a chart's journal
-abbrev pub ends_before_chart : ℕ → Bool
-ends_before_chart code = ends_at_files code || code == exit_code Usage
-
--- the same of an import's journal: the shelf may fail at the season file, which is read after it
-abbrev pub ends_before_import : ℕ → Bool
-ends_before_import code = code == exit_code FileFault
-
 -- the program may end with the number of faulty words: if they are faulty, or if the plan has no
 -- such day
 abbrev pub may_be_usage : Subcommand → Bool
@@ -129,15 +109,18 @@ uses_shelf version = false
 uses_shelf faulty = false
 uses_shelf asked = true
 
--- whether it reads the source, if the program ends with this number
+-- whether it reads the source, if the program ends with this number: not if there is no airport, or
+-- no journal of it
 abbrev pub uses_source : Subcommand → ℕ → Bool
-uses_source (desk airport types) code = not (ends_at_journal code)
+uses_source (desk airport types) code =
+    not (ends_at_files code || code == exit_code DiskFault || code == exit_code JournalFault)
 uses_source asked code = false
 
--- whether it uses the disk, if the program ends with this number
+-- whether it uses the disk, if the program ends with this number; an import whose shelf failed may
+-- have come to the season file, which is read after the journal
 abbrev pub uses_disk : Subcommand → ℕ → Bool
-uses_disk (init airport types) code = not (ends_before_journal code)
-uses_disk (chart airport types day) code = not (ends_before_chart code)
-uses_disk (import airport types season) code = not (ends_before_import code)
+uses_disk (init airport types) code = not (ends_at_files code || code == exit_code Memory)
+uses_disk (chart airport types day) code = not (ends_at_files code || code == exit_code Usage)
+uses_disk (import airport types season) code = not (code == exit_code FileFault)
 uses_disk (check airport types) code = false
 uses_disk asked code = uses_shelf asked && not (ends_at_files code)

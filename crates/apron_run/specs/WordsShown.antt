@@ -1,20 +1,26 @@
 -- What contracts see of what the words ask for.
-use Rattle.std.specs.Prelude.{◌≤◌}
+use Rattle.std.specs.Prelude.{ℕ, List, ◌≤◌}
 use Rattle.generated_day.specs.Days.{most_made}
+use Rattle.apron_run.specs.declared.words.Asked.{Asked}
+use Rattle.apron_run.specs.declared.words.Asked.TheVariants as asked
 use Rattle.apron_run.specs.declared.words.Subcommand.{Subcommand as Read}
 use Rattle.apron_run.specs.declared.words.Subcommand.TheVariants as read
 use Rattle.apron_run.specs.Words.{Subcommand, desk, init, check, chart, import, export, propose, upgrade, make, help, version, faulty}
 
+-- what is asked for at the airport of the files of these names
+abbrev pub subcommand_at : List ℕ → List ℕ → Asked → Subcommand
+subcommand_at airport types asked.Desk = desk airport types
+subcommand_at airport types asked.Init = init airport types
+subcommand_at airport types asked.Check = check airport types
+subcommand_at airport types (asked.Chart day) = chart airport types day.now
+subcommand_at airport types (asked.Import season) = import airport types season.now
+subcommand_at airport types asked.Export = export airport types
+subcommand_at airport types asked.Upgrade = upgrade airport types
+subcommand_at airport types (asked.Propose name draft) = propose airport types name draft
+
 -- the same, with the names in place of the words
 abbrev pub subcommand_shown : Read → Subcommand
-subcommand_shown (read.Desk airport types) = desk airport.now types.now
-subcommand_shown (read.Init airport types) = init airport.now types.now
-subcommand_shown (read.Check airport types) = check airport.now types.now
-subcommand_shown (read.Chart airport types day) = chart airport.now types.now day.now
-subcommand_shown (read.Import airport types season) = import airport.now types.now season.now
-subcommand_shown (read.Export airport types) = export airport.now types.now
-subcommand_shown (read.Upgrade airport types) = upgrade airport.now types.now
-subcommand_shown (read.Propose airport types name draft) = propose airport.now types.now name draft
+subcommand_shown (read.AtFiles airport types what) = subcommand_at airport.now types.now what
 subcommand_shown (read.Make visits) = make visits
 subcommand_shown read.Help = help
 subcommand_shown read.Version = version

@@ -1,18 +1,16 @@
 // How an import ended, and the line that tells it. Writing one takes no memory.
-ghost use Rattle.std.specs.Prelude.{◌≡◌, ◌++◌, codes, decimal, false};
+ghost use Rattle.std.specs.Prelude.{◌≡◌, ◌++◌, IsOk, MatchOption, codes, decimal};
 ghost use Rattle.apron_base.specs.Ends.{Puts};
-ghost use Rattle.apron_run.specs.Imported.{imported_line, imported_text, status_of_imported};
-ghost use Rattle.apron_run.specs.Statuses.{exit_code};
-ghost use Rattle.apron_run.specs.Words.{ends_before_import};
-ghost use Rattle.apron_run.specs.Carried.{TellsImported};
+ghost use Rattle.apron_run.specs.End.{line_of};
+ghost use Rattle.apron_run.specs.Imported.{imported_text};
 
-use crate::Status;
+use crate::End;
 use apron_base::{Failed, Sink};
 use apron_check::put_number;
 
 /// How an import ended. Records are counted from 1 with the header.
 #[derive(Clone, Copy, Debug, PartialEq, Eq)]
-pub(crate) enum Imported {
+pub enum Imported {
     /// Each record was asked: this many visits were added, and this many were there already.
     Whole { added: u64, present: u64 },
     /// The shelf failed at the season file.
@@ -32,44 +30,19 @@ pub(crate) enum Imported {
     Memory,
 }
 
-/// Prints the line that says how the import ended, and gives its status, which stays if the sink
-/// fails at the line, unless all was done. It prints nothing if the call numbers have run out.
-pub(crate) fn tell_imported<W: Sink>(sink: &mut W, imported: &Imported) -> Status
-    ensures tells { TellsImported imported.now (W.state sink.old) (W.state sink.new) result }
-    ensures comes { ends_before_import (exit_code result) ≡ false }
+/// Writes the line that says how the import ended: none if the call numbers have run out.
+pub(crate) fn put_imported<W: Sink>(sink: &mut W, imported: &Imported) -> Result<(), Failed>
+    ensures puts { MatchOption (line_of (End.Imported imported.now))
+        ((W.state sink.new ≡ W.state sink.old) × IsOk result)
+        (λ line. Puts (W.state sink.old) (W.state sink.new) result line) }
 {
     match imported {
-        Imported::Spent => Status::Spent,
-        Imported::Whole { .. } => match put_imported(sink, imported) {
-            Ok(()) => Status::Done,
-            Err(Failed) => Status::WriteFault,
-        },
+        Imported::Spent => Ok(()),
         _ => {
-            let _ = put_imported(sink, imported);
-            status_of_imported(imported)
+            put_import_text(sink, imported)?;
+            sink.put(b"\n")
         }
     }
-}
-
-fn status_of_imported(imported: &Imported) -> Status
-    ensures value { result ≡ status_of_imported imported.now }
-{
-    match imported {
-        Imported::Whole { .. } => Status::Done,
-        Imported::ShelfFault => Status::ShelfFault,
-        Imported::TooLong | Imported::Refused(_) => Status::SeasonFault,
-        Imported::Full(_) => Status::Full,
-        Imported::DiskFault => Status::DiskFault,
-        Imported::Spent => Status::Spent,
-        Imported::Memory => Status::Memory,
-    }
-}
-
-fn put_imported<W: Sink>(sink: &mut W, imported: &Imported) -> Result<(), Failed>
-    ensures puts { Puts (W.state sink.old) (W.state sink.new) result (imported_line imported.now) }
-{
-    put_import_text(sink, imported)?;
-    sink.put(b"\n")
 }
 
 fn put_import_text<W: Sink>(sink: &mut W, imported: &Imported) -> Result<(), Failed>

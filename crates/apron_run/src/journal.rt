@@ -1,7 +1,6 @@
 // The board of an airport over its journal on a disk.
 ghost use Rattle.std.specs.Prelude.{◌≡◌, IfErr, IfOk};
 ghost use Rattle.history_core.specs.History.{IsLegal};
-ghost use Rattle.history_core.specs.AtRisk.{read_entry_at_risk};
 ghost use Rattle.history_core.specs.Board.{entry_texts};
 ghost use Rattle.journal_disk.specs.Disk.{Does, Stays};
 ghost use Rattle.journal_disk.specs.Extent.{opening_calls};
@@ -116,12 +115,9 @@ fn open_journal<N: OfFiles, D: Disk>(
 /// leaves.
 pub fn close_board<N: OfFiles, D: Disk>(board: Board<'_, FilesJournal<N, D>>) -> D
     ensures keeps { KeepsHistory (record { airport = board.entry.airport; digests = N.digests })
-        board.entry.history
-        (read_entry_at_risk board.entry.airport (journal_tells D.state board.entry.keeper))
+        board.entry.history board.entry.at_risk (D.state result) }
+    ensures survives { Survives N.digests board.entry.history board.entry.at_risk N.begun
         (D.state result) }
-    ensures survives { Survives N.digests board.entry.history
-        (read_entry_at_risk board.entry.airport (journal_tells D.state board.entry.keeper))
-        N.begun (D.state result) }
     ensures disk { result ≡ board.entry.keeper.disk }
     ensures legal { IsLegal board.entry.airport board.entry.history }
 {

@@ -12,7 +12,7 @@ pub fn second_imports_add_nothing()
 {}
 
 /// A run over a shelf, a source and a sink that never fail, whose counts of faults are 0, ends with
-/// none of the statuses that tell of their faults.
+/// none of the statuses that tell of their faults: its faults have a cause.
 pub fn ends_that_never_fail_tell_no_fault<D: Disk>()
     ensures none { NoFaultIsTold D.state }
 {}

@@ -4,9 +4,9 @@
 #![tactic(auto)]
 
 mod chart;
-mod check;
 mod converting;
 mod desk;
+mod end;
 mod export;
 mod files_journal;
 mod import;
@@ -26,12 +26,11 @@ mod unusable;
 mod upgrade;
 mod words;
 
-pub use check::print_fault;
+pub use end::{End, tell_end};
 pub use files_journal::{FilesJournal, OfFiles};
 pub use journal::{Access, close_board, open_board, open_watched};
 pub use laws::{ends_that_never_fail_tell_no_fault, second_imports_add_nothing};
-pub use print::print_usage;
 pub use program::{run, run_with};
 pub use status::Status;
-pub use unusable::{Unusable, tell_unusable};
+pub use unusable::Unusable;
 pub use words::{is_plain_number, plain_number};

@@ -1,53 +1,62 @@
-// The words that print a text.
+// What is printed if all was done. Writing it takes no memory.
 ghost use Rattle.std.specs.Prelude.{◌≡◌};
-ghost use Rattle.apron_run.specs.Print.{Writes, help_text, made_text, usage_text, version_text};
+ghost use Rattle.apron_base.specs.Ends.{Puts};
+ghost use Rattle.apron_run.specs.Print.{already_text, help_text, made_text, upgraded_text, usage_text, version_text};
 
-use crate::Status;
-use apron_base::{Failed, Sink};
+use apron_base::{Failed, Listed, Sink};
+use apron_check::{AirportFiles, put_counts, put_number};
+use std::marker::Model;
 
-/// Prints what `--help` asks for.
-pub(crate) fn print_help<W: Sink>(sink: &mut W) -> Status
-    ensures writes { Writes help_text Status.Done Status.WriteFault (W.state sink.old)
-        (W.state sink.new) result }
-{
-    print(sink, help())
+/// What is printed if all was done. Contracts see its bytes.
+#[derive(Drop)]
+pub struct Text(pub(crate) Kind);
+
+/// What a text is made of.
+#[derive(Drop)]
+pub(crate) enum Kind {
+    Help,
+    Version,
+    /// That a journal was made.
+    NewJournal,
+    /// That a journal is of format 2 already.
+    Already,
+    Made(Listed<u8>),
+    /// How much there is of the airport.
+    Counts(AirportFiles),
+    /// How many entries were upgraded.
+    Upgraded(u32),
 }
 
-/// Prints what `--version` asks for.
-pub(crate) fn print_version<W: Sink>(sink: &mut W) -> Status
-    ensures writes { Writes version_text Status.Done Status.WriteFault (W.state sink.old)
-        (W.state sink.new) result }
-{
-    print(sink, version_text())
+impl Model for Text {
+    ghost use Rattle.std.specs.Prelude.{ℕ, List};
+    ghost use Rattle.apron_run.specs.Print.{text_of};
+
+    ghost Value = { List ℕ };
+
+    ghost view = { λ t. text_of t.0 };
 }
 
-/// Prints that a journal was made.
-pub(crate) fn print_made<W: Sink>(sink: &mut W) -> Status
-    ensures writes { Writes made_text Status.Done Status.WriteFault (W.state sink.old)
-        (W.state sink.new) result }
-{
-    print(sink, made_text())
-}
-
-/// Prints the line for faulty words. The status stays theirs if the sink fails at it.
-pub fn print_usage<W: Sink>(sink: &mut W) -> Status
-    ensures writes { Writes usage_text Status.Usage Status.Usage (W.state sink.old)
-        (W.state sink.new) result }
-    ensures usage { result ≡ Status.Usage }
-{
-    let _ = sink.put(usage());
-    Status::Usage
-}
-
-/// Prints this text.
-pub(crate) fn print<W: Sink>(sink: &mut W, text: &[u8]) -> Status
-    ensures writes { Writes text.now Status.Done Status.WriteFault (W.state sink.old)
-        (W.state sink.new) result }
-{
-    match sink.put(text) {
-        Ok(()) => Status::Done,
-        Err(Failed) => Status::WriteFault,
+impl Text {
+    pub(crate) fn put<W: Sink>(&self, sink: &mut W) -> Result<(), Failed>
+        ensures puts { Puts (W.state sink.old) (W.state sink.new) result self.now }
+    {
+        match &self.0 {
+            Kind::Help => sink.put(help()),
+            Kind::Version => sink.put(version_text()),
+            Kind::NewJournal => sink.put(made_text()),
+            Kind::Already => sink.put(already()),
+            Kind::Made(text) => sink.put(text.as_slice()),
+            Kind::Counts(files) => put_counts(sink, &files.airport),
+            Kind::Upgraded(count) => put_upgraded(sink, *count),
+        }
     }
+}
+
+fn put_upgraded<W: Sink>(sink: &mut W, count: u32) -> Result<(), Failed>
+    ensures puts { Puts (W.state sink.old) (W.state sink.new) result (upgraded_text count) }
+{
+    put_number(sink, b"upgraded ", count as u64)?;
+    sink.put(b"\n")
 }
 
 // What `--help` prints.
@@ -74,10 +83,18 @@ fn made_text() -> &'static [u8]
     b"ok\n"
 }
 
-// What is printed for words that ask for nothing that there is.
+/// What is printed for words that ask for nothing that there is.
 #[tactic(auto, unfolding(crate::specs::Print::usage_text))]
-fn usage() -> &'static [u8]
+pub(crate) fn usage() -> &'static [u8]
     ensures text { result.now ≡ usage_text }
 {
     b"usage\n"
+}
+
+// What is printed if a journal is of format 2 already.
+#[tactic(auto, unfolding(crate::specs::Print::already_text))]
+fn already() -> &'static [u8]
+    ensures text { result.now ≡ already_text }
+{
+    b"already format 2\n"
 }

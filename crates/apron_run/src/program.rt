@@ -1,30 +1,33 @@
 // The program's one call.
-ghost use Rattle.std.specs.Prelude.{◌≡◌, ℕ, List, [], true};
+ghost use Rattle.std.specs.Prelude.{◌≡◌, ◌⊎◌, ℕ, List, [], Ok, false};
+ghost use Rattle.apron_base.specs.Shelf.{ShelfState};
+ghost use Rattle.apron_check.specs.Files.{FindsFiles};
 ghost use Rattle.desk_workers.specs.Watched.{feed_texts};
 ghost use Rattle.watch_list.specs.Watches.{shows};
-ghost use Rattle.apron_run.specs.Carried.{CarriedAs};
 ghost use Rattle.apron_run.specs.Causes.{FaultsHaveCause};
 ghost use Rattle.apron_run.specs.Complete.{IsRunComplete};
-ghost use Rattle.apron_run.specs.Headline.{TellsHeadline};
-ghost use Rattle.apron_run.specs.Run.{KeptUnless, RunsAs};
+ghost use Rattle.apron_run.specs.End.{status_of};
+ghost use Rattle.apron_run.specs.Run.{Does, KeptUnless, RunsAs};
 ghost use Rattle.apron_run.specs.Statuses.{exit_code};
-ghost use Rattle.apron_run.specs.Words.{desk as desk_word, faulty, may_be_usage, subcommand_of, uses_disk, uses_shelf, uses_source};
+ghost use Rattle.apron_run.specs.Words.{chart as chart_word, faulty, subcommand_of, uses_disk, uses_shelf, uses_source};
+ghost use Rattle.apron_run.specs.WordsShown.{subcommand_at};
 ghost use Rattle.apron_run.specs.World.{world_at};
 
-use crate::Status;
-use crate::chart::run_chart;
-use crate::check::run_check;
-use crate::desk::run_desk;
+use crate::chart::DayChart;
+use crate::desk::serve_desk;
+use crate::end::tell_end;
 use crate::export::Season;
-use crate::import::run_import;
-use crate::init::run_init;
-use crate::make::run_make;
-use crate::plan_text::print_of_files;
-use crate::print::{print_help, print_usage, print_version};
+use crate::import::import_season;
+use crate::init::make_journal;
+use crate::make::day_line;
+use crate::plan_text::text_of_journal;
+use crate::print::{Kind, Text};
 use crate::propose::DraftProposal;
-use crate::upgrade::run_upgrade;
-use crate::words::{Subcommand, subcommand_of};
-use apron_base::{Shelf, Sink, Source, Word};
+use crate::upgrade::upgrade_journal;
+use crate::words::{Asked, Subcommand, number_within, subcommand_of};
+use crate::{End, Status};
+use apron_base::{Memory, Shelf, Sink, Source, Word};
+use apron_check::{AirportFiles, FilesFault, airport_of};
 use journal_disk::Disk;
 use std::alloc::Global;
 use watch_list::{NoteTest, Shown, Stated, Watches};
@@ -37,7 +40,7 @@ use watch_list::{NoteTest, Shown, Stated, Watches};
 /// airport that the files make and from the journal's history, with these watches for feeds. If
 /// there is no airport or no journal of it, it prints the line that says why. `init A T` reads both
 /// files and makes an empty journal of them on an empty disk. `check A T` reads both files, and
-/// prints the one line that says what is in them. `chart A T DAY` opens the journal as `run_desk`
+/// prints the one line that says what is in them. `chart A T DAY` opens the journal as `desk`
 /// does, and prints the wall chart of that day of the plan. `import A T SEASON` opens it and asks
 /// to add the visits of the season file, one after the other, and prints how many were added and
 /// how many were there. `export A T` opens it and prints the season file of the plan's visits.
@@ -75,12 +78,7 @@ pub fn run_with<F: Shelf, S: Source, W: Sink, D: Disk, R: Stated, T: NoteTest>(
     sink: &mut W,
     disk: &mut D,
 ) -> u8
-    ensures headline { (airport types : List ℕ) → subcommand_of words.now ≡ desk_word airport types
-        → TellsHeadline (feed_texts R.tells watches.now) airport types
-        (world_at (F.state shelf.old) (S.state source.old) (W.state sink.old) (D.state disk.old))
-        (world_at (F.state shelf.new) (S.state source.new) (W.state sink.new) (D.state disk.new))
-        result }
-    ensures runs { RunsAs (feed_texts R.tells watches.now) (subcommand_of words.now)
+    ensures headline { RunsAs (feed_texts R.tells watches.now) (subcommand_of words.now)
         (world_at (F.state shelf.old) (S.state source.old) (W.state sink.old) (D.state disk.old))
         (world_at (F.state shelf.new) (S.state source.new) (W.state sink.new) (D.state disk.new))
         result }
@@ -94,13 +92,15 @@ pub fn run_with<F: Shelf, S: Source, W: Sink, D: Disk, R: Stated, T: NoteTest>(
         result }
     ensures usage { subcommand_of words.now ≡ faulty → result ≡ exit_code Status.Usage }
     ensures usage_alone { result ≡ exit_code Status.Usage
-        → may_be_usage (subcommand_of words.now) ≡ true }
+        → (subcommand_of words.now ≡ faulty) ⊎ ((airport types day : List ℕ)
+        × (subcommand_of words.now ≡ chart_word airport types day)) }
     ensures shelf_kept { KeptUnless (uses_shelf (subcommand_of words.now)) shelf.old shelf.new }
     ensures source_kept { KeptUnless (uses_source (subcommand_of words.now) result)
         source.old source.new }
     ensures disk_kept { KeptUnless (uses_disk (subcommand_of words.now) result) disk.old disk.new }
 {
-    run_words(alloc, words, watches, shelf, source, sink, disk).code()
+    let end = run_words(alloc, words, watches, shelf, source, sink, disk);
+    tell_end(sink, &end).code()
 }
 
 /// Does what [`run_with`] does, with no watch.
@@ -112,12 +112,7 @@ pub fn run<F: Shelf, S: Source, W: Sink, D: Disk>(
     sink: &mut W,
     disk: &mut D,
 ) -> u8
-    ensures headline { (airport types : List ℕ) → subcommand_of words.now ≡ desk_word airport types
-        → TellsHeadline (feed_texts shows []) airport types
-        (world_at (F.state shelf.old) (S.state source.old) (W.state sink.old) (D.state disk.old))
-        (world_at (F.state shelf.new) (S.state source.new) (W.state sink.new) (D.state disk.new))
-        result }
-    ensures runs { RunsAs (feed_texts shows []) (subcommand_of words.now)
+    ensures headline { RunsAs (feed_texts shows []) (subcommand_of words.now)
         (world_at (F.state shelf.old) (S.state source.old) (W.state sink.old) (D.state disk.old))
         (world_at (F.state shelf.new) (S.state source.new) (W.state sink.new) (D.state disk.new))
         result }
@@ -131,7 +126,8 @@ pub fn run<F: Shelf, S: Source, W: Sink, D: Disk>(
         result }
     ensures usage { subcommand_of words.now ≡ faulty → result ≡ exit_code Status.Usage }
     ensures usage_alone { result ≡ exit_code Status.Usage
-        → may_be_usage (subcommand_of words.now) ≡ true }
+        → (subcommand_of words.now ≡ faulty) ⊎ ((airport types day : List ℕ)
+        × (subcommand_of words.now ≡ chart_word airport types day)) }
     ensures shelf_kept { KeptUnless (uses_shelf (subcommand_of words.now)) shelf.old shelf.new }
     ensures source_kept { KeptUnless (uses_source (subcommand_of words.now) result)
         source.old source.new }
@@ -141,7 +137,7 @@ pub fn run<F: Shelf, S: Source, W: Sink, D: Disk>(
     run_with(alloc, words, &watches, shelf, source, sink, disk)
 }
 
-// The same, with the status.
+// The same up to the line at its end.
 fn run_words<F: Shelf, S: Source, W: Sink, D: Disk, R: Stated, T: NoteTest>(
     alloc: Global,
     words: &[Word],
@@ -150,45 +146,73 @@ fn run_words<F: Shelf, S: Source, W: Sink, D: Disk, R: Stated, T: NoteTest>(
     source: &mut S,
     sink: &mut W,
     disk: &mut D,
-) -> Status
-    ensures runs { CarriedAs (feed_texts R.tells watches.now) (subcommand_of words.now)
+) -> End
+    ensures does { Does (feed_texts R.tells watches.now) (subcommand_of words.now)
         (world_at (F.state shelf.old) (S.state source.old) (W.state sink.old) (D.state disk.old))
         (world_at (F.state shelf.new) (S.state source.new) (W.state sink.new) (D.state disk.new))
-        (exit_code result) }
-    ensures usage { subcommand_of words.now ≡ faulty → result ≡ Status.Usage }
-    ensures usage_alone { exit_code result ≡ exit_code Status.Usage
-        → may_be_usage (subcommand_of words.now) ≡ true }
-    ensures shelf_kept { KeptUnless (uses_shelf (subcommand_of words.now)) shelf.old shelf.new }
-    ensures source_kept { KeptUnless (uses_source (subcommand_of words.now) (exit_code result))
-        source.old source.new }
-    ensures disk_kept { KeptUnless (uses_disk (subcommand_of words.now) (exit_code result))
-        disk.old disk.new }
+        result }
+    ensures shelf_kept { uses_shelf (subcommand_of words.now) ≡ false → shelf.new ≡ shelf.old }
+    ensures source_kept { uses_source (subcommand_of words.now) (exit_code (status_of result))
+        ≡ false → source.new ≡ source.old }
+    ensures disk_kept { uses_disk (subcommand_of words.now) (exit_code (status_of result))
+        ≡ false → disk.new ≡ disk.old }
 {
     match subcommand_of(words) {
-        Subcommand::Desk(airport, types) => {
-            run_desk(alloc, airport, types, watches, shelf, source, sink, disk)
+        Subcommand::AtFiles(airport, types, asked) => {
+            match airport_of(alloc, airport, types, shelf) {
+                Ok(files) => run_at(alloc, files, asked, watches, shelf, source, sink, disk),
+                Err(fault) => End::Faulty(fault),
+            }
         }
-        Subcommand::Init(airport, types) => run_init(alloc, airport, types, shelf, sink, disk),
-        Subcommand::Check(airport, types) => run_check(alloc, airport, types, shelf, sink),
-        Subcommand::Chart(airport, types, day) => run_chart(
-            alloc, airport, types, day, shelf, sink, disk,
-        ),
-        Subcommand::Import(airport, types, season) => {
-            run_import(alloc, airport, types, season, shelf, sink, disk)
+        Subcommand::Make(visits) => match day_line(alloc, visits) {
+            Ok(line) => End::Printed(Text(Kind::Made(line))),
+            Err(Memory) => End::Faulty(FilesFault::Memory),
+        },
+        Subcommand::Help => End::Printed(Text(Kind::Help)),
+        Subcommand::Version => End::Printed(Text(Kind::Version)),
+        Subcommand::Faulty => End::Unasked,
+    }
+}
+
+// What is asked for at the airport of the files that were found.
+fn run_at<F: Shelf, S: Source, W: Sink, D: Disk, R: Stated, T: NoteTest>(
+    alloc: Global,
+    files: AirportFiles,
+    asked: Asked<'_>,
+    watches: &Watches<R, T>,
+    shelf: &mut F,
+    source: &mut S,
+    sink: &mut W,
+    disk: &mut D,
+) -> End
+    ensures does { (before : ShelfState) (airport types : List ℕ)
+        → FindsFiles before (F.state shelf.old) airport types (Ok files)
+        → Does (feed_texts R.tells watches.now) (subcommand_at airport types asked.entry)
+        (world_at before (S.state source.old) (W.state sink.old) (D.state disk.old))
+        (world_at (F.state shelf.new) (S.state source.new) (W.state sink.new) (D.state disk.new))
+        result }
+    ensures source_kept { (airport types : List ℕ)
+        → uses_source (subcommand_at airport types asked.entry) (exit_code (status_of result)) ≡ false
+        → source.new ≡ source.old }
+    ensures disk_kept { (airport types : List ℕ)
+        → uses_disk (subcommand_at airport types asked.entry) (exit_code (status_of result)) ≡ false
+        → disk.new ≡ disk.old }
+{
+    match asked {
+        Asked::Desk => serve_desk(alloc, &files, watches, source, sink, disk),
+        Asked::Init => make_journal(&files, disk),
+        Asked::Check => End::Printed(Text(Kind::Counts(files))),
+        Asked::Chart(day) => {
+            match number_within(day.as_bytes(), 1, files.airport.parts().days) {
+                Some(day) => text_of_journal(alloc, &files, &DayChart { day }, disk),
+                None => End::Unasked,
+            }
         }
-        Subcommand::Export(airport, types) => {
-            print_of_files(alloc, airport, types, &Season, shelf, sink, disk)
+        Asked::Import(season) => import_season(alloc, &files, season, shelf, disk),
+        Asked::Export => text_of_journal(alloc, &files, &Season, disk),
+        Asked::Propose(desk, draft) => {
+            text_of_journal(alloc, &files, &DraftProposal { desk, draft }, disk)
         }
-        Subcommand::Propose(airport, types, desk, draft) => {
-            let asked = DraftProposal { desk, draft };
-            print_of_files(alloc, airport, types, &asked, shelf, sink, disk)
-        }
-        Subcommand::Upgrade(airport, types) => run_upgrade(
-            alloc, airport, types, shelf, sink, disk,
-        ),
-        Subcommand::Make(visits) => run_make(alloc, visits, sink),
-        Subcommand::Help => print_help(sink),
-        Subcommand::Version => print_version(sink),
-        Subcommand::Faulty => print_usage(sink),
+        Asked::Upgrade => upgrade_journal(alloc, &files, disk),
     }
 }

@@ -1,9 +1,10 @@
 // The visits of a season file, read from the shelf and asked to be added to a board.
-ghost use Rattle.std.specs.Prelude.{◌≡◌, All, IfErr, IfOk, List, OnOk, Result};
+ghost use Rattle.std.specs.Prelude.{◌≡◌, All, IfErr, IfOk, List, MatchResult, OnOk, Result};
 ghost use Rattle.visit_book.specs.NewVisits.{IsNewVisitOf};
 ghost use Rattle.visit_book.specs.declared.visits.NewVisit.{NewVisit};
-ghost use Rattle.apron_run.specs.Asking.{AsksOnce, AsksSeason, IsMissing, IsThere, StopsImport, reached_by};
-ghost use Rattle.apron_run.specs.Import.{AsksFound, FindsSeason};
+ghost use Rattle.history_core.specs.Board.{machine_state};
+ghost use Rattle.apron_run.specs.Asking.{AsksOnce, AsksSeason, IsMissing, IsThere, StopsImport};
+ghost use Rattle.apron_run.specs.Import.{FindsSeason};
 ghost use Rattle.apron_run.specs.declared.imported.Imported.{Imported};
 
 use crate::imported::Imported;
@@ -30,8 +31,11 @@ pub(crate) fn add_season<F: Shelf, K: Keeper>(
 ) -> Imported
     ensures adds { (found : Result (List NewVisit) Imported)
         × FindsSeason board.old.airport season.now (F.state shelf.old) (F.state shelf.new) found
-        × AsksFound board.old.airport found (reached_by K.state board.old)
-        (reached_by K.state board.new) result }
+        × MatchResult found
+        (λ visits. AsksSeason board.old.airport visits (machine_state K.state board.old)
+        (machine_state K.state board.new) result)
+        (λ why. (machine_state K.state board.new ≡ machine_state K.state board.old)
+        × (result ≡ why)) }
     ensures airport { board.new.airport ≡ board.old.airport }
 {
     match find_season(alloc, board.airport(), season, shelf) {
@@ -68,8 +72,8 @@ fn find_season<F: Shelf>(
 // already.
 fn ask_season<K: Keeper>(alloc: Global, board: &mut Board<'_, K>, visits: &[NewVisit]) -> Imported
     requires new { All (IsNewVisitOf board.old.airport) visits.now }
-    ensures asks { AsksSeason board.old.airport visits.now (reached_by K.state board.old)
-        (reached_by K.state board.new) result }
+    ensures asks { AsksSeason board.old.airport visits.now (machine_state K.state board.old)
+        (machine_state K.state board.new) result }
     ensures airport { board.new.airport ≡ board.old.airport }
 {
     let before = board.history().len();
@@ -95,11 +99,11 @@ fn ask_visit<K: Keeper>(
 ) -> Result<(), Imported>
     requires new { IsNewVisitOf board.old.airport new.now }
     ensures met { OnOk result
-        (AsksOnce board.old.airport (reached_by K.state board.old) new.now
-        (reached_by K.state board.new)) }
+        (AsksOnce board.old.airport (machine_state K.state board.old) new.now
+        (machine_state K.state board.new)) }
     ensures stops { IfErr result
-        (StopsImport board.old.airport number (reached_by K.state board.old) new.now
-        (reached_by K.state board.new)) }
+        (StopsImport board.old.airport number (machine_state K.state board.old) new.now
+        (machine_state K.state board.new)) }
     ensures airport { board.new.airport ≡ board.old.airport }
 {
     let call = board.next_call();

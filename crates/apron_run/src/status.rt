@@ -1,9 +1,6 @@
 // What the program ends with.
 ghost use Rattle.std.specs.Prelude.{◌≡◌};
-ghost use Rattle.apron_run.specs.Statuses.{exit_code, status_of_fault, status_of_outcome};
-
-use apron_base::Outcome;
-use apron_check::FilesFault;
+ghost use Rattle.apron_run.specs.Statuses.{exit_code};
 
 /// What the program ends with.
 #[derive(Clone, Copy, Debug, PartialEq, Eq)]
@@ -68,32 +65,5 @@ impl Status {
             Status::Limit => 16,
             Status::Spent => 17,
         }
-    }
-}
-
-pub(crate) fn status_of_outcome(outcome: Outcome) -> Status
-    ensures value { result ≡ status_of_outcome outcome }
-{
-    match outcome {
-        Outcome::Ended | Outcome::Closed => Status::Done,
-        Outcome::ReadFault => Status::ReadFault,
-        Outcome::WriteFault => Status::WriteFault,
-        Outcome::Cut => Status::Cut,
-        Outcome::Memory => Status::Memory,
-        Outcome::Malformed => Status::Malformed,
-        Outcome::Limit => Status::Limit,
-        Outcome::Spent => Status::Spent,
-    }
-}
-
-pub(crate) fn status_of_fault(fault: &FilesFault) -> Status
-    ensures value { result ≡ status_of_fault fault.now }
-{
-    match fault {
-        FilesFault::Faulty(_) | FilesFault::AirportTooLong | FilesFault::TypesTooLong => {
-            Status::FileFault
-        }
-        FilesFault::ShelfFault => Status::ShelfFault,
-        FilesFault::Memory => Status::Memory,
     }
 }

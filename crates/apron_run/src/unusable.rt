@@ -1,10 +1,9 @@
 // Why there is no journal to work on, and the line that tells it. Writing one takes no memory.
-ghost use Rattle.std.specs.Prelude.{◌≡◌, ◌++◌, codes, decimal};
+ghost use Rattle.std.specs.Prelude.{◌≡◌, ◌++◌, ◌∷◌, [], codes, decimal};
 ghost use Rattle.apron_base.specs.Ends.{Puts};
 ghost use Rattle.hex.specs.Hex.{encode_lower};
-ghost use Rattle.apron_run.specs.Unusable.{TellsUnusable, entries_text, journal_text, status_of_entries, status_of_journal, status_of_unusable, unusable_line, unusable_text};
+ghost use Rattle.apron_run.specs.Unusable.{unusable_text};
 
-use crate::Status;
 use apron_base::{Failed, Sink};
 use apron_check::{put_both, put_number};
 use history_core::OpenFault;
@@ -19,49 +18,10 @@ pub enum Unusable {
     Entries(OpenFault),
 }
 
-/// Prints the line that says why, and gives its status, which stays if the sink fails at the line.
-pub fn tell_unusable<W: Sink>(sink: &mut W, why: &Unusable) -> Status
-    ensures tells { TellsUnusable why.now (W.state sink.old) (W.state sink.new) result }
-    ensures status { result ≡ status_of_unusable why.now }
-{
-    let _ = put_unusable(sink, why);
-    status_of_unusable(why)
-}
-
-fn status_of_unusable(why: &Unusable) -> Status
-    ensures value { result ≡ status_of_unusable why.now }
-{
-    match why {
-        Unusable::Journal(fault) => status_of_journal(*fault),
-        Unusable::Entries(fault) => status_of_entries(*fault),
-    }
-}
-
-fn status_of_journal(fault: JournalFault) -> Status
-    ensures value { result ≡ status_of_journal fault }
-{
-    match fault {
-        JournalFault::DiskFault => Status::DiskFault,
-        JournalFault::NotEmpty => Status::NotEmpty,
-        JournalFault::NotAJournal
-        | JournalFault::OtherAirport { .. }
-        | JournalFault::OldFormat
-        | JournalFault::BadRecord(_) => Status::JournalFault,
-        JournalFault::Memory => Status::Memory,
-    }
-}
-
-fn status_of_entries(fault: OpenFault) -> Status
-    ensures value { result ≡ status_of_entries fault }
-{
-    match fault {
-        OpenFault::BadEntry(_) | OpenFault::WrongEntry(_) => Status::JournalFault,
-        OpenFault::Memory => Status::Memory,
-    }
-}
-
-fn put_unusable<W: Sink>(sink: &mut W, why: &Unusable) -> Result<(), Failed>
-    ensures puts { Puts (W.state sink.old) (W.state sink.new) result (unusable_line why.now) }
+/// Writes the line that says why.
+pub(crate) fn put_unusable<W: Sink>(sink: &mut W, why: &Unusable) -> Result<(), Failed>
+    ensures puts { Puts (W.state sink.old) (W.state sink.new) result
+        (unusable_text why.now ++ 10 ∷ []) }
 {
     put_why(sink, why)?;
     sink.put(b"\n")
@@ -77,7 +37,8 @@ fn put_why<W: Sink>(sink: &mut W, why: &Unusable) -> Result<(), Failed>
 }
 
 fn put_journal_fault<W: Sink>(sink: &mut W, fault: &JournalFault) -> Result<(), Failed>
-    ensures puts { Puts (W.state sink.old) (W.state sink.new) result (journal_text fault.now) }
+    ensures puts { Puts (W.state sink.old) (W.state sink.new) result
+        (unusable_text (Unusable.Journal fault.now)) }
 {
     match fault {
         JournalFault::DiskFault => sink.put(b"disk fault"),
@@ -109,7 +70,8 @@ fn in_hex(digests: &[u8; 64]) -> [u8; 128]
 }
 
 fn put_entries_fault<W: Sink>(sink: &mut W, fault: &OpenFault) -> Result<(), Failed>
-    ensures puts { Puts (W.state sink.old) (W.state sink.new) result (entries_text fault.now) }
+    ensures puts { Puts (W.state sink.old) (W.state sink.new) result
+        (unusable_text (Unusable.Entries fault.now)) }
 {
     match fault {
         OpenFault::BadEntry(number) => put_entry(sink, *number, b" unreadable"),

@@ -1,11 +1,11 @@
 // What the words of the command line ask for.
 #![tactic(auto, unfolding(crate::specs::Words::subcommand_of))]
 
-ghost use Rattle.std.specs.Prelude.{◌≡◌, ◌==◌, ◌&&◌, ◌≤◌, IfSome, [], ◌∷◌, is_some, length, nat_le, slice_index};
+ghost use Rattle.std.specs.Prelude.{◌≡◌, ◌==◌, ◌&&◌, ◌≤◌, IfSome, None, Some, [], ◌∷◌, if◌then◌else◌, is_some, length, nat_le, slice_index};
 ghost use Rattle.std.specs.Char.{is_ascii_digit};
 ghost use Rattle.std.specs.List.{list_all};
 ghost use Rattle.apron_base.specs.Name.{is_name};
-ghost use Rattle.apron_run.specs.Words.{if_within, is_number, is_plain_number, number_within, subcommand_of, value_of};
+ghost use Rattle.apron_run.specs.Words.{is_number, is_plain_number, number_within, subcommand_of, value_of};
 ghost use Rattle.apron_run.specs.WordsShown.{IsFitting, subcommand_shown};
 
 use apron_base::{MAX_DIGITS, Name, Word, number_of};
@@ -14,31 +14,36 @@ use generated_day::MAX_MADE;
 /// What the words ask for.
 #[derive(Clone, Copy)]
 pub(crate) enum Subcommand<'w> {
-    /// One session at the airport of the airport file and the type file of these names, on its
-    /// journal.
-    Desk(&'w str, &'w str),
-    /// An empty journal for the airport of the two files.
-    Init(&'w str, &'w str),
-    /// A check of the airport file and the type file of these names.
-    Check(&'w str, &'w str),
-    /// The wall chart of the day that these digits name, drawn from the journal of the two files.
-    Chart(&'w str, &'w str, &'w str),
-    /// The visits of the season file of the third name are added to the plan in the journal of the
-    /// two files.
-    Import(&'w str, &'w str, &'w Word),
-    /// The season file of the visits of the plan in the journal of the two files.
-    Export(&'w str, &'w str),
-    /// A proposal to the desk of this name for its draft of this number, over the plan in the
-    /// journal of the two files.
-    Propose(&'w str, &'w str, Name, u32),
-    /// The journal of the two files in format 2.
-    Upgrade(&'w str, &'w str),
+    /// This, at the airport that the airport file and the type file of these names make.
+    AtFiles(&'w str, &'w str, Asked<'w>),
     /// The summary of a generated day of this many visits, 1 to 5,000.
     Make(u32),
     Help,
     Version,
     /// Nothing that there is.
     Faulty,
+}
+
+/// What is asked for at the airport of two files.
+#[derive(Clone, Copy)]
+pub(crate) enum Asked<'w> {
+    /// One session, on the journal of the files.
+    Desk,
+    /// An empty journal.
+    Init,
+    /// How much there is of the airport.
+    Check,
+    /// The wall chart of the day that these digits name, drawn from the journal.
+    Chart(&'w str),
+    /// The visits of the season file of this name are added to the plan in the journal.
+    Import(&'w Word),
+    /// The season file of the visits of the plan in the journal.
+    Export,
+    /// A proposal to the desk of this name for its draft of this number, over the plan in the
+    /// journal.
+    Propose(Name, u32),
+    /// The journal in format 2.
+    Upgrade,
 }
 
 /// What the words ask for. For each number of words a function has the forms of so many, in the
@@ -99,15 +104,15 @@ fn asked_of_files<'w>(word: &str, airport: &'w str, types: &'w str) -> Subcomman
     ensures fits { IsFitting result }
 {
     if word == "init" {
-        Subcommand::Init(airport, types)
+        Subcommand::AtFiles(airport, types, Asked::Init)
     } else if word == "desk" {
-        Subcommand::Desk(airport, types)
+        Subcommand::AtFiles(airport, types, Asked::Desk)
     } else if word == "export" {
-        Subcommand::Export(airport, types)
+        Subcommand::AtFiles(airport, types, Asked::Export)
     } else if word == "upgrade" {
-        Subcommand::Upgrade(airport, types)
+        Subcommand::AtFiles(airport, types, Asked::Upgrade)
     } else if word == "check" {
-        Subcommand::Check(airport, types)
+        Subcommand::AtFiles(airport, types, Asked::Check)
     } else {
         Subcommand::Faulty
     }
@@ -119,9 +124,9 @@ fn asked_of_more<'w>(word: &str, airport: &'w str, types: &'w str, more: &'w Wor
     ensures fits { IsFitting result }
 {
     if word == "import" {
-        Subcommand::Import(airport, types, more)
+        Subcommand::AtFiles(airport, types, Asked::Import(more))
     } else if word == "chart" && is_plain_number(more.text().as_bytes()) {
-        Subcommand::Chart(airport, types, more.text())
+        Subcommand::AtFiles(airport, types, Asked::Chart(more.text()))
     } else {
         Subcommand::Faulty
     }
@@ -141,7 +146,9 @@ fn asked_of_draft<'w>(
     if word == "propose" {
         match desk_named(desk.as_bytes()) {
             Some(name) => match plain_number(draft.as_bytes(), 0, u32::MAX) {
-                Some(number) => Subcommand::Propose(airport, types, name, number),
+                Some(number) => {
+                    Subcommand::AtFiles(airport, types, Asked::Propose(name, number))
+                }
                 None => Subcommand::Faulty,
             },
             None => Subcommand::Faulty,
@@ -187,7 +194,8 @@ pub(crate) fn number_within(text: &[u8], first: u32, last: u32) -> Option<u32>
 }
 
 fn if_within(first: u32, last: u32, number: u64) -> Option<u32>
-    ensures is { result ≡ if_within first last number }
+    ensures is { result
+        ≡ (if nat_le first number && nat_le number last then Some number else None) }
     ensures same { IfSome result (λ kept. kept ≡ number) }
     ensures first { IfSome result (λ number. first ≤ number) }
     ensures last { IfSome result (λ number. number ≤ last) }

@@ -1,18 +1,15 @@
 -- Desks that are served at a journal: what they begin with, and what they leave on the disk.
-use Rattle.std.proofs.Common.{◌≡◌, ◌∙◌, ℕ, List, [], ◌∷◌, length, Option, None, Result, Ok, Err, refl, subst, sym, arith}
+use Rattle.std.proofs.Common.{◌≡◌, ◌<◌, ◌∙◌, ℕ, true, List, [], ◌∷◌, length, Option, None, Some, Result, Ok, Err, refl, subst, sym, arith}
 use Rattle.std.specs.Prelude.{IfErr, IfOk}
 use Rattle.apron_base.specs.Keeper.{KeeperState}
 use Rattle.apron_base.specs.Machine.{MachineState}
 use Rattle.apron_rules.specs.declared.parts.AirportParts.{AirportParts}
 use Rattle.desk_asks.specs.declared.asks.Entry.{Entry}
-use Rattle.history_core.specs.AtRisk.{read_entry_at_risk}
 use Rattle.history_core.specs.Board.{BoardHeld, entry_texts, machine_state}
 use Rattle.history_core.specs.History.{IsLegal}
 use Rattle.history_core.specs.Opening.{next_after}
 use Rattle.history_core.specs.declared.opening.OpenFault.TheVariants as entries
-use Rattle.history_core.proofs.Added.{visits_added}
-use Rattle.history_core.proofs.Drafts.{drafts_made}
-use Rattle.history_core.proofs.Legal.{front_legal, legal_counted, legal_sound}
+use Rattle.history_core.proofs.Legal.{legal_counted}
 use Rattle.journal_disk.specs.Disk.{DiskState, Stays}
 use Rattle.desk_workers.specs.Crew.{ServesBoard, end_of}
 use Rattle.desk_workers.specs.Watched.{fed_sessions}
@@ -22,27 +19,25 @@ use Rattle.screen_server.specs.Shown.{ShowsFrom}
 use Rattle.screen_server.specs.declared.shown.ShownEnd.{ShownEnd}
 use Rattle.screen_server.specs.declared.shown.Task.{Task}
 use Rattle.apron_check.specs.declared.files.AirportFiles.{AirportFiles}
-use Rattle.apron_run.specs.Headline.{AllSound}
 use Rattle.apron_run.specs.Journal.{KeepsHistory, NotOpened}
 use Rattle.apron_run.specs.Opened.{IsOpened}
+use Rattle.apron_run.specs.Asking.{opened_board}
 use Rattle.apron_run.specs.Survival.{Survives}
 use Rattle.apron_run.specs.declared.unusable.Unusable.TheVariants.{Entries}
-use Rattle.apron_serve.specs.Board.{IsNoteOf, ServesDesks, Service, has_missed, opened_board, served_end}
+use Rattle.apron_run.proofs.Serving.{all_sound}
+use Rattle.apron_serve.specs.Board.{Service, served_end}
+use Rattle.apron_serve.specs.Noted.{IsNoteOf, MeetsNoted, has_missed}
 use Rattle.apron_serve.specs.declared.board.ServeEnd.{ServeEnd}
 use Rattle.apron_serve.specs.World.{ServeWorld, Unserved}
-
--- the plan is sound after each entry of a legal history
-pub all_sound : (airport : AirportParts) (history : List Entry) → IsLegal airport history → AllSound airport history
-all_sound airport history legal = λ front back is. legal_sound airport front (front_legal airport front back (subst (IsLegal airport) is legal))
 
 -- after a board was opened no entry is at risk
 pub opened_safe : {K : Type 0} (tells : K → KeeperState) (files : AirportFiles) (disk : DiskState) (board : BoardHeld K) → IsOpened tells files disk board
     → (machine_state tells board).at_risk ≡ None
-opened_safe tells files disk board opened = rw opened.at_risk refl
+opened_safe tells files disk board opened = opened.at_risk
 
 -- a board that was opened, as a machine
 pub opened_begun : {K : Type 0} (tells : K → KeeperState) (airport : AirportParts) (faults next : ℕ) (board : BoardHeld K) → board.airport ≡ airport → board.next ≡ next
-    → (tells board.keeper).faults ≡ faults → (tells board.keeper).at_risk ≡ None
+    → (tells board.keeper).faults ≡ faults → board.at_risk ≡ None
     → machine_state tells board ≡ record { fixed = airport; history = board.history; at_risk = None; next = next; faults = faults }
 opened_begun tells airport faults next board airport_is next_is count safe = rw (safe, airport_is, next_is, count) refl
 
@@ -60,23 +55,29 @@ pub note_is : (opened history : List Entry) (count : ℕ) (writers : List Writer
 note_is opened history count [] note many begun version writers = sym many
 note_is opened history count (writer ∷ others) note many begun version writers = (begun, version, writers ∙ many, omega arith)
 
+-- a hall that missed a version has writers
+pub missed_some : (opened history : List Entry) (writers : ℕ) (note : Option HallNoteState) → IsNoteOf opened history writers note → has_missed note ≡ true → 0 < writers
+missed_some opened history writers None is missed = absurd cc
+missed_some opened history writers (Some note) is missed = is.3
+
 -- desks and screens that were served at a hall of a board that was opened, with the disk that was
 -- closed after them
 abbrev pub desks_serve : {In Out K R E : Type 0} (service : Service In Out) (tells : K → KeeperState) (files : AirportFiles) (task : Task) (before after : ServeWorld In Out) (board : BoardHeld K)
-    (hall : HallHeld K R) (met : Result ShownEnd E) (ends : ShownEnd) (served : ServeEnd)
+    (hall : HallHeld K R) (met : Result ShownEnd E) (ends : ShownEnd) (served : ServeEnd) (note : Option HallNoteState)
     → IsOpened tells files before.disk board
     → met ≡ Ok ends
     → IfOk met (λ ended. ServesBoard service.states (fed_sessions service.feeds) task.connections (record { listeners = before.listeners; board = machine_state tells board }) (record { listeners = after.listeners; board = machine_state tells hall.board.board }) ended.desks)
     → IfOk met (λ ended. ShowsFrom service.states (record { airport = files.airport; history = board.history }) task before.screens (record { listeners = after.screens; history = hall.board.board.history; end = ended.screens }))
     → length hall.writers ≡ length before.screens
     → hall.begun ≡ board.next
-    → after.note ≡ hall_note hall
-    → served ≡ served_end (end_of (ends.desks ∷ ends.screens ∷ [])) (has_missed after.note)
+    → note ≡ hall_note hall
+    → after.missed ≡ has_missed note
+    → served ≡ served_end (end_of (ends.desks ∷ ends.screens ∷ [])) after.missed
     → after.disk.faults ≡ (tells hall.board.board.keeper).faults
-    → KeepsHistory (record { airport = hall.board.board.airport; digests = files.digests }) hall.board.board.history (read_entry_at_risk hall.board.board.airport (tells hall.board.board.keeper)) after.disk
-    → Survives files.digests hall.board.board.history (read_entry_at_risk hall.board.board.airport (tells hall.board.board.keeper)) before.disk after.disk
-    → ServesDesks service files task before after served
-desks_serve {E = E} service tells files task before after board hall met ends served opened is serve show many begun noted end_is counted keeps survives =
+    → KeepsHistory (record { airport = hall.board.board.airport; digests = files.digests }) hall.board.board.history hall.board.board.at_risk after.disk
+    → Survives files.digests hall.board.board.history hall.board.board.at_risk before.disk after.disk
+    → MeetsNoted service files task before after (Ok served) note
+desks_serve {E = E} service tells files task before after board hall met ends served note opened is serve show many begun note_is_hall missed_is end_is counted keeps survives =
     let left = hall.board.board in
     let serves : ServesBoard service.states (fed_sessions service.feeds) task.connections (record { listeners = before.listeners; board = machine_state tells board }) (record { listeners = after.listeners; board = machine_state tells left }) ends.desks =
     subst (λ (r : Result ShownEnd E).
@@ -86,37 +87,40 @@ desks_serve {E = E} service tells files task before after board hall met ends se
     let same : left.airport ≡ files.airport = serves.fixed ∙ opened.airport_is in
     let own : IsLegal left.airport left.history = serves.legal in
     let legal : IsLegal files.airport left.history = subst (λ (a : AirportParts). IsLegal a left.history) same own in
+    let noted : IsNoteOf board.history left.history (length before.screens) note =
+    subst (λ (n : Option HallNoteState). IsNoteOf board.history left.history (length before.screens) n) (sym note_is_hall)
+    (note_is board.history left.history (length before.screens) hall.writers _ many (begun ∙ opened.next) (legal_counted left.airport left.history own) refl) in
     record {
-      opened = board.history;
-      opens = opened.opens;
-      board = machine_state tells left;
-      desks = ends.desks;
-      serves = subst (λ (m : MachineState Entry AirportParts).
-          ServesBoard service.states (fed_sessions service.feeds) task.connections (record { listeners = before.listeners; board = m }) (record { listeners = after.listeners; board = machine_state tells left }) ends.desks) fresh serves;
-      looks = ends.screens;
-      shows = subst (λ (r : Result ShownEnd E).
-          IfOk r (λ ended. ShowsFrom service.states (record { airport = files.airport; history = board.history }) task before.screens (record { listeners = after.screens; history = left.history; end = ended.screens }))) is show;
-      note = subst (λ (n : Option HallNoteState). IsNoteOf board.history left.history (length before.screens) n) (sym noted)
-          (note_is board.history left.history (length before.screens) hall.writers _ many (begun ∙ opened.next) (legal_counted left.airport left.history own) refl);
-      end_is = end_is;
-      faults = counted;
-      keeps = subst (λ (a : AirportParts).
-          KeepsHistory (record { airport = a; digests = files.digests }) left.history (read_entry_at_risk left.airport (tells left.keeper)) after.disk) same keeps;
-      survives = survives;
-      sound = all_sound files.airport left.history legal;
-      drafts = λ desk number version. drafts_made files.airport left.history desk number version legal;
-      visits = λ version added. visits_added files.airport left.history version added legal;
+      noted = noted;
+      meets = record {
+        opened = board.history;
+        opens = opened.opens;
+        board = machine_state tells left;
+        desks = ends.desks;
+        serves = subst (λ (m : MachineState Entry AirportParts).
+            ServesBoard service.states (fed_sessions service.feeds) task.connections (record { listeners = before.listeners; board = m }) (record { listeners = after.listeners; board = machine_state tells left }) ends.desks) fresh serves;
+        looks = ends.screens;
+        shows = subst (λ (r : Result ShownEnd E).
+            IfOk r (λ ended. ShowsFrom service.states (record { airport = files.airport; history = board.history }) task before.screens (record { listeners = after.screens; history = left.history; end = ended.screens }))) is show;
+        missed = λ missed. missed_some board.history left.history (length before.screens) note noted (sym missed_is ∙ missed);
+        end_is = end_is;
+        faults = counted;
+        keeps = subst (λ (a : AirportParts).
+            KeepsHistory (record { airport = a; digests = files.digests }) left.history left.at_risk after.disk) same keeps;
+        survives = survives;
+        sound = all_sound files.airport left.history legal;
+      };
     }
 
 -- there is no memory to serve at a board that was opened, and nothing was written
 pub turns_want_memory : {In Out K : Type 0} (tells : K → KeeperState) (files : AirportFiles) (before after : ServeWorld In Out) (board : BoardHeld K)
-    → IsOpened tells files before.disk board → after.listeners ≡ before.listeners → after.screens ≡ before.screens → after.note ≡ before.note
+    → IsOpened tells files before.disk board → after.listeners ≡ before.listeners → after.screens ≡ before.screens → after.missed ≡ before.missed
     → Stays before.disk after.disk → after.disk.faults ≡ (tells board.keeper).faults
     → Unserved (λ old new. NotOpened files old new (Entries entries.Memory)) before after
-turns_want_memory tells files before after board opened listeners screens note stays counted =
+turns_want_memory tells files before after board opened listeners screens missed stays counted =
     let opens = opened.opens in record {
       listeners = listeners;
       screens = screens;
-      uses = record { stays = stays; cause = (entry_texts board.history, record { opening = opens.entries; counts = counted ∙ opened.faults }, tt) };
-      note = note;
+      uses = record { stays = stays; cause = (entry_texts board.history, opens.entries, counted ∙ opened.faults, tt) };
+      missed = missed;
     }

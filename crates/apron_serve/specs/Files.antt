@@ -1,19 +1,19 @@
 -- What is done with an order: desks and screens are served at the journal, or a line says why not.
-use Rattle.std.specs.Prelude.{◌≡◌, ℕ, List, codes, Option, None, Some, Result, Ok, Err}
-use Rattle.std.specs.Option.{option_map}
+use Rattle.std.specs.Prelude.{◌≡◌, ℕ, List, codes, MatchOption, MatchResult, Result, Ok, Err}
 use Rattle.apron_base.specs.Ends.{SinkState}
 use Rattle.apron_check.specs.Files.{FindsFiles}
 use Rattle.apron_check.specs.declared.files.AirportFiles.{AirportFiles}
 use Rattle.apron_check.specs.declared.faults.FilesFault.{FilesFault}
-use Rattle.history_core.specs.declared.opening.OpenFault.TheVariants as entries
+use Rattle.apron_check.specs.declared.faults.FilesFault.TheVariants as faults
 use Rattle.screen_server.specs.declared.shown.Task.{Task}
-use Rattle.apron_run.specs.End.{End, TellsEnd, faulty, unasked, unusable}
+use Rattle.apron_run.specs.End.{TellsEnd}
 use Rattle.apron_run.specs.Print.{Writes}
 use Rattle.apron_run.specs.World.{Unwritten}
+use Rattle.apron_run.specs.declared.end.End.{End}
+use Rattle.apron_run.specs.declared.end.End.TheVariants as ended
 use Rattle.apron_run.specs.declared.status.Status.{Status}
 use Rattle.apron_run.specs.declared.status.Status.TheVariants as status
 use Rattle.apron_run.specs.declared.unusable.Unusable.{Unusable}
-use Rattle.apron_run.specs.declared.unusable.Unusable.TheVariants.{Entries}
 use Rattle.apron_serve.specs.declared.board.ServeEnd.{ServeEnd}
 use Rattle.apron_serve.specs.declared.board.ServeEnd.TheVariants.{Done, ListenerFault, Missed}
 use Rattle.apron_serve.specs.Board.{MeetsDesks, Service}
@@ -24,24 +24,14 @@ use Rattle.apron_serve.specs.World.{ServeWorld, Unserved}
 unfoldable pub listener_line : List ℕ
 listener_line = codes "listener fault\n"
 
--- why a screen does not show the last version: there was no memory
-abbrev pub no_memory : Unusable
-no_memory = Entries entries.Memory
-
 -- what is printed about what was met, and its status: nothing if desks and screens were all served,
--- and otherwise a line
+-- and otherwise a line; there was no memory if a screen does not show the last version
 abbrev pub PrintsServeEnd : Result ServeEnd Unusable → SinkState → SinkState → Status → Type 0
 PrintsServeEnd (Ok Done) before after told = (after ≡ before) × (told ≡ status.Done)
 PrintsServeEnd (Ok ListenerFault) before after told =
     Writes listener_line status.ListenerFault status.ListenerFault before after told
-PrintsServeEnd (Ok Missed) before after told = TellsEnd (unusable no_memory) before after told
-PrintsServeEnd (Err why) before after told = TellsEnd (unusable why) before after told
-
--- what is to be done at an airport, if its plan has the day that is ordered
-abbrev pub task_at : AirportFiles → Order → Option Task
-task_at files order =
-    option_map (λ day. record { connections = order.connections; day = day })
-    (day_shown files.airport order.day)
+PrintsServeEnd (Ok Missed) before after told = TellsEnd (ended.Faulty faults.Memory) before after told
+PrintsServeEnd (Err why) before after told = TellsEnd (ended.Unusable why) before after told
 
 -- nobody was served and nothing was written on the disk, as the line of this end tells
 abbrev pub Refuses : {In Out : Type 0} → End → ServeWorld In Out → ServeWorld In Out → Status
@@ -58,22 +48,15 @@ module _ {In Out : Type 0} (service : Service In Out) where
     pub meets : MeetsDesks service files task before after met
     pub tells : PrintsServeEnd met before.sink after.sink told
 
-  -- the same; or there is no such day
-  abbrev pub ServesTask : AirportFiles → Option Task → ServeWorld In Out → ServeWorld In Out
-      → Status → Type 0
-  ServesTask files (Some task) before after told = ServesJournal files task before after told
-  ServesTask files None before after told = Refuses unasked before after told
-
-  -- what is done with what was found in the two files
-  abbrev pub ServesFound : Order → Result AirportFiles FilesFault → ServeWorld In Out
-      → ServeWorld In Out → Status → Type 0
-  ServesFound order (Ok files) before after told =
-      ServesTask files (task_at files order) before after told
-  ServesFound order (Err fault) before after told = Refuses (faulty fault) before after told
-
-  -- the two files of the order were read, and this was done with what was found in them
+  -- the two files of the order were read, and desks and screens served at their journal, or not if
+  -- their plan lacks the day that is ordered, or if they make no airport
   pub record ServesFiles (order : Order) (before after : ServeWorld In Out)
       (told : Status) : Type 0 where
     pub found : Result AirportFiles FilesFault
     pub finds : FindsFiles before.shelf after.shelf order.airport order.types found
-    pub serves : ServesFound order found before after told
+    pub serves : MatchResult found
+        (λ files. MatchOption (day_shown files.airport order.day)
+        (Refuses ended.Unasked before after told)
+        (λ day. ServesJournal files (record { connections = order.connections; day = day })
+        before after told))
+        (λ fault. Refuses (ended.Faulty fault) before after told)

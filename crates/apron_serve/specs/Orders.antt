@@ -1,5 +1,6 @@
 -- What the words `serve A T N` and `serve A T N screen DAY` order.
 use Rattle.std.specs.Prelude.{ℕ, Bool, nat_le, ◌==◌, ◌&&◌, Option, Some, None, List, [], ◌∷◌, codes, if◌then◌else◌}
+use Rattle.std.specs.Option.{option_and_then}
 use Rattle.std.specs.Str.{bytes_eq}
 use Rattle.apron_rules.specs.declared.parts.AirportParts.{AirportParts}
 use Rattle.apron_run.specs.Words.{Form, asked_by, is_file, is_number, is_plain_number, number_within, value_of}
@@ -50,16 +51,12 @@ abbrev pub may_have : ℕ → Option (List ℕ) → Bool
 may_have screens None = screens == 0
 may_have screens (Some day) = nat_le 1 screens && nat_le screens most_screens
 
--- the order, if it may have this many screens
-abbrev pub order_with : ℕ → Option Order → Option Order
-order_with screens None = None
-order_with screens (Some order) = if may_have screens order.day then Some order else None
-
 -- what the words order of this many listeners of desks, 1 to 16, and this many of screens
 abbrev pub order_of : List (List ℕ) → ℕ → ℕ → Option Order
 order_of words listeners screens =
     if nat_le 1 listeners && nat_le listeners most_listeners
-    then order_with screens (order_of_words words)
+    then option_and_then (λ order. if may_have screens order.day then Some order else None)
+    (order_of_words words)
     else None
 
 -- the day that screens show at an airport: the one that the digits name, if it is a day of the

@@ -1,11 +1,12 @@
 // Desks and screens at the board of an airport over its journal on a disk.
-ghost use Rattle.std.specs.Prelude.{◌≡◌, ◌<◌, ◌≤◌, [], ◌∷◌, None, OnErr, length, map};
+ghost use Rattle.std.specs.Prelude.{◌≡◌, ◌<◌, ◌≤◌, [], ◌∷◌, OnErr, false, length, map};
 ghost use Rattle.apron_base.specs.Ends.{SinkState};
 ghost use Rattle.apron_base.specs.Shelf.{ShelfState};
 ghost use Rattle.desk_workers.specs.Crew.{end_of};
 ghost use Rattle.desk_workers.specs.Watched.{feed_texts};
 ghost use Rattle.apron_run.specs.World.{Unwritten};
-ghost use Rattle.apron_serve.specs.Board.{MeetsDesks, has_missed, served_end};
+ghost use Rattle.apron_serve.specs.Board.{served_end};
+ghost use Rattle.apron_serve.specs.Noted.{MeetsNoted, has_missed};
 ghost use Rattle.apron_serve.specs.Orders.{most_listeners};
 ghost use Rattle.apron_serve.specs.World.{serve_world_at};
 
@@ -60,12 +61,12 @@ pub(crate) fn serve_desks<
     requires begun { Unwritten N.begun (D.state disk) }
     requires few { length listeners.old ≤ most_listeners }
     requires day { 0 < length screens.old → (1 ≤ task.day) × (task.day ≤ files.now.airport.days) }
-    ensures meets { (shelf read : ShelfState) (sink wrote : SinkState) → MeetsDesks
+    ensures meets { (shelf read : ShelfState) (sink wrote : SinkState) → MeetsNoted
         (record { states = L.states; feeds = feed_texts R.tells watches.now }) files.now task
         (serve_world_at shelf (map L.state listeners.old) (map L.state screens.old)
-        sink N.begun None)
+        sink N.begun false)
         (serve_world_at read (map L.state listeners.new) (map L.state screens.new)
-        wrote (D.state result.1) result.2) result.0 }
+        wrote (D.state result.1) (has_missed result.2)) result.0 result.2 }
     ensures unserved { OnErr result.0 (listeners.new ≡ listeners.old) }
     ensures unshown { OnErr result.0 (screens.new ≡ screens.old) }
 {
@@ -101,7 +102,7 @@ fn served_end(ends: &ShownEnd, note: &Option<HallNote>) -> ServeEnd
     }
 }
 
-fn has_missed(note: &Option<HallNote>) -> bool
+pub(crate) fn has_missed(note: &Option<HallNote>) -> bool
     ensures is { result ≡ has_missed note.now }
 {
     match note {

@@ -1,27 +1,23 @@
 // The calls of the words `serve A T N` and `serve A T N screen DAY`.
-ghost use Rattle.std.specs.Prelude.{◌≡◌, ◌↔◌, ◌⊎◌, ◌<◌, ◌≤◌, true, false, None, Ok, Option, Some, is_some, length, map, not};
+ghost use Rattle.std.specs.Prelude.{◌≡◌, ◌↔◌, ◌⊎◌, ◌<◌, ◌≤◌, IfSome, IsSome, Bool, true, false, None, Ok, Some, is_some, length, map, not};
 ghost use Rattle.apron_base.specs.Shelf.{ShelfState};
 ghost use Rattle.desk_workers.specs.Watched.{feed_texts, no_feeds};
 ghost use Rattle.apron_run.specs.Run.{KeptUnless};
 ghost use Rattle.apron_run.specs.Statuses.{exit_code};
-ghost use Rattle.shown_board.specs.Halls.{HallNoteState};
-ghost use Rattle.apron_serve.specs.Board.{has_missed};
 ghost use Rattle.apron_serve.specs.Complete.{IsServeComplete};
-ghost use Rattle.apron_serve.specs.Files.{PrintsServeEnd, ServesFiles, ServesJournal, ServesTask, listener_line, task_at};
+ghost use Rattle.apron_serve.specs.Files.{PrintsServeEnd, ServesFiles, ServesJournal, listener_line};
 ghost use Rattle.apron_serve.specs.Orders.{Order as Ordered, may_have, most_listeners, order_of};
 ghost use Rattle.apron_serve.specs.OrdersShown.{order_shown};
-ghost use Rattle.apron_serve.specs.Serve.{HaveFinished, ServesAs, SomeFailed, has_served, is_screen_order, serve_ends_before_journal};
+ghost use Rattle.apron_serve.specs.Serve.{HaveFinished, ServesAs, SomeFailed, has_served, serve_ends_before_journal};
 ghost use Rattle.apron_serve.specs.World.{desks_world_at, serve_world_at};
 
-use crate::board::{ServeEnd, serve_desks};
+use crate::board::{ServeEnd, has_missed, serve_desks};
 use crate::words::{Order, order_of};
 use apron_base::{Shelf, Sink, Word};
-use apron_check::{AirportFiles, airport_of};
-use apron_run::{Status, Unusable, print_fault, print_usage, tell_unusable};
-use history_core::OpenFault;
+use apron_check::{AirportFiles, FilesFault, airport_of};
+use apron_run::{End, Status, Unusable, tell_end};
 use journal_disk::Disk;
 use screen_server::{Task, Wall};
-use shown_board::HallNote;
 use std::alloc::Global;
 use std::marker::Brand;
 use std::sync::Wait;
@@ -132,7 +128,7 @@ pub fn serve_with<
     ensures disk_kept { KeptUnless (not (serve_ends_before_journal result.0)) disk result.1 }
 {
     let (none, desks) = listeners.split_at_mut(0);
-    let (code, disk, _note) = serve_noted(
+    let (code, disk, _missed) = serve_noted(
         rt, alloc, words, watches, shelf, desks, none, sink, disk,
     );
     (code, disk)
@@ -171,13 +167,13 @@ pub fn serve_all<
     sink: &mut W,
     disk: D,
 ) -> (u8, D)
-    ensures headline { (note : Option HallNoteState) × ServesAs
+    ensures headline { (missed : Bool) × ServesAs
         (record { states = L.states; feeds = feed_texts R.tells watches.now })
         (order_of words.now (length listeners.old) (length screens.old))
         (serve_world_at (F.state shelf.old) (map L.state listeners.old) (map L.state screens.old)
-        (W.state sink.old) (D.state disk) None)
+        (W.state sink.old) (D.state disk) false)
         (serve_world_at (F.state shelf.new) (map L.state listeners.new) (map L.state screens.new)
-        (W.state sink.new) (D.state result.1) note) result.0 }
+        (W.state sink.new) (D.state result.1) missed) result.0 }
     ensures done { (order : Ordered)
         → order_of words.now (length listeners.old) (length screens.old) ≡ Some order
         → result.0 ≡ exit_code Status.Done
@@ -195,15 +191,14 @@ pub fn serve_all<
     ensures usage { order_of words.now (length listeners.old) (length screens.old) ≡ None
         → result.0 ≡ exit_code Status.Usage }
     ensures usage_alone { result.0 ≡ exit_code Status.Usage
-        → (order_of words.now (length listeners.old) (length screens.old) ≡ None)
-        ⊎ (is_screen_order (order_of words.now (length listeners.old) (length screens.old))
-        ≡ true) }
-    ensures complete { (note : Option HallNoteState) × IsServeComplete
+        → IfSome (order_of words.now (length listeners.old) (length screens.old))
+        (λ order. IsSome order.day) }
+    ensures complete { (missed : Bool) × IsServeComplete
         (order_of words.now (length listeners.old) (length screens.old))
         (serve_world_at (F.state shelf.old) (map L.state listeners.old) (map L.state screens.old)
-        (W.state sink.old) (D.state disk) None)
+        (W.state sink.old) (D.state disk) false)
         (serve_world_at (F.state shelf.new) (map L.state listeners.new) (map L.state screens.new)
-        (W.state sink.new) (D.state result.1) note) result.0 }
+        (W.state sink.new) (D.state result.1) missed) result.0 }
     ensures shelf_kept { KeptUnless
         (is_some (order_of words.now (length listeners.old) (length screens.old))) shelf.old
         shelf.new }
@@ -213,13 +208,13 @@ pub fn serve_all<
         screens.old screens.new }
     ensures disk_kept { KeptUnless (not (serve_ends_before_journal result.0)) disk result.1 }
 {
-    let (code, disk, _note) = serve_noted(
+    let (code, disk, _missed) = serve_noted(
         rt, alloc, words, watches, shelf, listeners, screens, sink, disk,
     );
     (code, disk)
 }
 
-// The same, and what the hall of the screens noted, once they were shown.
+// The same, and whether a screen's writer missed the last version.
 fn serve_noted<
     F: Shelf,
     L: Wall + Send,
@@ -238,39 +233,37 @@ fn serve_noted<
     screens: &mut [L],
     sink: &mut W,
     disk: D,
-) -> (u8, D, Option<HallNote>)
+) -> (u8, D, bool)
     ensures headline { ServesAs
         (record { states = L.states; feeds = feed_texts R.tells watches.now })
         (order_of words.now (length listeners.old) (length screens.old))
         (serve_world_at (F.state shelf.old) (map L.state listeners.old) (map L.state screens.old)
-        (W.state sink.old) (D.state disk) None)
+        (W.state sink.old) (D.state disk) false)
         (serve_world_at (F.state shelf.new) (map L.state listeners.new) (map L.state screens.new)
         (W.state sink.new) (D.state result.1) result.2) result.0 }
     ensures done { (order : Ordered)
         → order_of words.now (length listeners.old) (length screens.old) ≡ Some order
         → result.0 ≡ exit_code Status.Done
         → HaveFinished order.connections (map L.state listeners.old) (map L.state listeners.new)
-        × HaveFinished order.connections (map L.state screens.old) (map L.state screens.new)
-        × (has_missed result.2 ≡ false) }
+        × HaveFinished order.connections (map L.state screens.old) (map L.state screens.new) }
     ensures finished { (order : Ordered)
         → order_of words.now (length listeners.old) (length screens.old) ≡ Some order
         → HaveFinished order.connections (map L.state listeners.old) (map L.state listeners.new)
         → HaveFinished order.connections (map L.state screens.old) (map L.state screens.new)
-        → ((result.0 ≡ exit_code Status.Done) × (has_missed result.2 ≡ false))
-        ⊎ ((result.0 ≡ exit_code Status.Memory) × (has_missed result.2 ≡ true)) }
+        → (result.0 ≡ exit_code Status.Done)
+        ⊎ ((result.0 ≡ exit_code Status.Memory) × (0 < length screens.old)) }
     ensures failed { result.0 ≡ exit_code Status.ListenerFault
         → SomeFailed (map L.state listeners.old) (map L.state listeners.new)
         ⊎ SomeFailed (map L.state screens.old) (map L.state screens.new) }
     ensures usage { order_of words.now (length listeners.old) (length screens.old) ≡ None
         → result.0 ≡ exit_code Status.Usage }
     ensures usage_alone { result.0 ≡ exit_code Status.Usage
-        → (order_of words.now (length listeners.old) (length screens.old) ≡ None)
-        ⊎ (is_screen_order (order_of words.now (length listeners.old) (length screens.old))
-        ≡ true) }
+        → IfSome (order_of words.now (length listeners.old) (length screens.old))
+        (λ order. IsSome order.day) }
     ensures complete { IsServeComplete
         (order_of words.now (length listeners.old) (length screens.old))
         (serve_world_at (F.state shelf.old) (map L.state listeners.old) (map L.state screens.old)
-        (W.state sink.old) (D.state disk) None)
+        (W.state sink.old) (D.state disk) false)
         (serve_world_at (F.state shelf.new) (map L.state listeners.new) (map L.state screens.new)
         (W.state sink.new) (D.state result.1) result.2) result.0 }
     ensures shelf_kept { KeptUnless
@@ -284,16 +277,17 @@ fn serve_noted<
 {
     match order_of(words, listeners.len(), screens.len()) {
         Some(order) => {
-            let (status, disk, note) = serve_files(
+            let (status, disk, missed) = serve_files(
                 rt, alloc, &order, watches, shelf, listeners, screens, sink, disk,
             );
-            (status.code(), disk, note)
+            (status.code(), disk, missed)
         }
-        None => (print_usage(sink).code(), disk, None),
+        None => (tell_end(sink, &End::Unasked).code(), disk, false),
     }
 }
 
-// Serves what is ordered, or prints why not.
+// Serves what is ordered at the journal of its files, if their plan has the day that is ordered; or
+// prints why not.
 fn serve_files<
     F: Shelf,
     L: Wall + Send,
@@ -312,14 +306,14 @@ fn serve_files<
     screens: &mut [L],
     sink: &mut W,
     disk: D,
-) -> (Status, D, Option<HallNote>)
+) -> (Status, D, bool)
     requires few { length listeners.old ≤ most_listeners }
     requires screens { may_have (length screens.old) (order_shown order.now).day ≡ true }
     ensures serves { ServesFiles
         (record { states = L.states; feeds = feed_texts R.tells watches.now })
         (order_shown order.now)
         (serve_world_at (F.state shelf.old) (map L.state listeners.old) (map L.state screens.old)
-        (W.state sink.old) (D.state disk) None)
+        (W.state sink.old) (D.state disk) false)
         (serve_world_at (F.state shelf.new) (map L.state listeners.new) (map L.state screens.new)
         (W.state sink.new) (D.state result.1) result.2) result.0 }
     ensures listeners_kept { KeptUnless (has_served (length screens.old) (exit_code result.0))
@@ -329,49 +323,10 @@ fn serve_files<
     ensures disk_kept { KeptUnless (not (serve_ends_before_journal (exit_code result.0)))
         disk result.1 }
 {
-    match airport_of(alloc, order.airport.text(), order.types.text(), shelf) {
-        Ok(files) => serve_day(
-            rt, alloc, &files, order, watches, listeners, screens, sink, disk,
-        ),
-        Err(fault) => (print_fault(sink, &fault), disk, None),
-    }
-}
-
-// Serves what is ordered at the journal of these files, if their plan has the day that is ordered.
-fn serve_day<
-    L: Wall + Send,
-    W: Sink,
-    D: Disk + Send,
-    R: Stated + Sync,
-    T: NoteTest + Sync,
-    Rt: Wait + Threads + Sync,
->(
-    rt: &Rt,
-    alloc: Global,
-    files: &AirportFiles,
-    order: &Order,
-    watches: &Watches<R, T>,
-    listeners: &mut [L],
-    screens: &mut [L],
-    sink: &mut W,
-    disk: D,
-) -> (Status, D, Option<HallNote>)
-    requires few { length listeners.old ≤ most_listeners }
-    requires screens { may_have (length screens.old) (order_shown order.now).day ≡ true }
-    ensures serves { (shelf read : ShelfState) → ServesTask
-        (record { states = L.states; feeds = feed_texts R.tells watches.now }) files.now
-        (task_at files.now (order_shown order.now))
-        (serve_world_at shelf (map L.state listeners.old) (map L.state screens.old)
-        (W.state sink.old) (D.state disk) None)
-        (serve_world_at read (map L.state listeners.new) (map L.state screens.new)
-        (W.state sink.new) (D.state result.1) result.2) result.0 }
-    ensures listeners_kept { KeptUnless (has_served (length screens.old) (exit_code result.0))
-        listeners.old listeners.new }
-    ensures screens_kept { KeptUnless (has_served (length screens.old) (exit_code result.0))
-        screens.old screens.new }
-    ensures disk_kept { KeptUnless (not (serve_ends_before_journal (exit_code result.0)))
-        disk result.1 }
-{
+    let files = match airport_of(alloc, order.airport.text(), order.types.text(), shelf) {
+        Ok(files) => files,
+        Err(fault) => return (tell_end(sink, &End::Faulty(fault)), disk, false),
+    };
     match order.shown_day(files.airport.parts().days) {
         Some(day) => {
             let task = Task {
@@ -379,10 +334,10 @@ fn serve_day<
                 day,
             };
             serve_journal(
-                rt, alloc, files, task, watches, listeners, screens, sink, disk,
+                rt, alloc, &files, task, watches, listeners, screens, sink, disk,
             )
         }
-        None => (print_usage(sink), disk, None),
+        None => (tell_end(sink, &End::Unasked), disk, false),
     }
 }
 
@@ -405,13 +360,13 @@ fn serve_journal<
     screens: &mut [L],
     sink: &mut W,
     disk: D,
-) -> (Status, D, Option<HallNote>)
+) -> (Status, D, bool)
     requires few { length listeners.old ≤ most_listeners }
     requires day { 0 < length screens.old → (1 ≤ task.day) × (task.day ≤ files.now.airport.days) }
     ensures serves { (shelf read : ShelfState) → ServesJournal
         (record { states = L.states; feeds = feed_texts R.tells watches.now }) files.now task
         (serve_world_at shelf (map L.state listeners.old) (map L.state screens.old)
-        (W.state sink.old) (D.state disk) None)
+        (W.state sink.old) (D.state disk) false)
         (serve_world_at read (map L.state listeners.new) (map L.state screens.new)
         (W.state sink.new) (D.state result.1) result.2) result.0 }
     ensures listeners_kept { KeptUnless (has_served (length screens.old) (exit_code result.0))
@@ -423,19 +378,19 @@ fn serve_journal<
     let (met, disk, note) = serve_desks::<Brand, L, D, R, T, Rt>(
         rt, alloc, files, task, watches, listeners, screens, disk,
     );
-    (tell_met(sink, &met), disk, note)
+    (tell_met(sink, met), disk, has_missed(&note))
 }
 
 // Prints the line about it, if there is one, and gives its status, which stays even if the sink
 // fails at the line.
-fn tell_met<W: Sink>(sink: &mut W, met: &Result<ServeEnd, Unusable>) -> Status
-    ensures tells { PrintsServeEnd met.now (W.state sink.old) (W.state sink.new) result }
+fn tell_met<W: Sink>(sink: &mut W, met: Result<ServeEnd, Unusable>) -> Status
+    ensures tells { PrintsServeEnd met (W.state sink.old) (W.state sink.new) result }
 {
     match met {
         Ok(ServeEnd::Done) => Status::Done,
         Ok(ServeEnd::ListenerFault) => print_listener_fault(sink),
-        Ok(ServeEnd::Missed) => tell_unusable(sink, &Unusable::Entries(OpenFault::Memory)),
-        Err(why) => tell_unusable(sink, why),
+        Ok(ServeEnd::Missed) => tell_end(sink, &End::Faulty(FilesFault::Memory)),
+        Err(why) => tell_end(sink, &End::Unusable(why)),
     }
 }
 

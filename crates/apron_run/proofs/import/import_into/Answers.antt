@@ -1,18 +1,16 @@
-use Rattle.std.proofs.Common.{ℕ, List, Ok, refl, sym, ap, subst}
-use Rattle.history_core.specs.AtRisk.{read_entry_at_risk}
+use Rattle.std.proofs.Common.{ℕ, List, refl, sym, ap, subst}
 use Rattle.apron_run.specs.Import.{ImportsSeason}
 use Rattle.apron_run.specs.Journal.{KeepsHistory}
 use Rattle.apron_run.specs.Opened.{journal_tells}
 use Rattle.apron_run.specs.Survival.{Survives}
 use Rattle.apron_run.specs.World.{World, world_at}
-use Rattle.apron_run.specs.Carried.{MeetsImport}
 use Rattle.apron_run.proofs.Importing.{season_imported}
 use Rattle.apron_run.proofs.Serving.{opened_from, unopened_from}
 use Rattle.apron_run.proofs.import.import_into.Goals as goal
 
 pub returns : goal.returns
 returns g c = record {
-  meets = λ source sink.
+  does = λ source sink.
       let before : World = world_at (g.F.Shelf.state c.args.shelf.now) source sink g.N.OfFiles.begun in
       let after : World = world_at (g.F.Shelf.state c.add_season-imported.new.shelf) source sink (g.D.Disk.state c.close_board.result) in
       let left = c.add_season-imported.new.board in
@@ -20,18 +18,18 @@ returns g c = record {
       season_imported (journal_tells g.D.Disk.state) c.args.files.now c.text.result.now before after c.in-Ok.board left
       c.add_season-imported.result
       (opened_from (journal_tells g.D.Disk.state) c.args.files.now g.N.OfFiles.begun (g.D.Disk.state c.args.disk) c.in-Ok.board c.requires.begun c.in-Ok.ensures.opened)
-      c.add_season-imported.ensures.adds c.add_season-imported.ensures.airport c.close_board.ensures.legal
+      c.add_season-imported.ensures.adds c.add_season-imported.ensures.airport
       (sym (ap (λ d. (g.D.Disk.state d).faults) c.close_board.ensures.disk))
-      (subst (λ (digests : List ℕ). KeepsHistory (record { airport = left.airport; digests = digests }) left.history
-      (read_entry_at_risk left.airport (journal_tells g.D.Disk.state left.keeper)) after.disk) (sym c.requires.digests) c.close_board.ensures.keeps)
-      (subst (λ (digests : List ℕ). Survives digests left.history (read_entry_at_risk left.airport (journal_tells g.D.Disk.state left.keeper)) before.disk after.disk)
+      (subst (λ (digests : List ℕ). KeepsHistory (record { airport = left.airport; digests = digests }) left.history left.at_risk after.disk)
+      (sym c.requires.digests) c.close_board.ensures.keeps)
+      (subst (λ (digests : List ℕ). Survives digests left.history left.at_risk before.disk after.disk)
       (sym c.requires.digests) c.close_board.ensures.survives) in
-      subst (λ (season : List ℕ). MeetsImport c.args.files.now season before after (Ok c.add_season-imported.result)) c.text.ensures.text imports;
+      (refl, refl, subst (λ (season : List ℕ). ImportsSeason c.args.files.now season before after c.add_season-imported.result) c.text.ensures.text imports);
 }
 
 pub returns-in-Err : goal.returns-in-Err
 returns-in-Err g c = record {
-  meets = λ source sink. record {
+  does = λ source sink. record {
     shelf = refl;
     source = refl;
     sink = refl;

@@ -1,11 +1,14 @@
-use Rattle.std.proofs.Common.{rules}
-use Rattle.apron_run.proofs.Importing.{told_after}
+use Rattle.std.proofs.Common.{rules, subst}
+use Rattle.apron_run.specs.Import.{AtSeason}
+use Rattle.apron_run.specs.World.{world_at}
 use Rattle.apron_run.proofs.import.import_season.Goals as goal
 
-pub returns-in-Ok-clause-imports : goal.returns-in-Ok-clause-imports
-returns-in-Ok-clause-imports g c = λ source.
-    told_after g.D.Disk.state c.import_on-met.result.0 (c.import_on-met.ensures.meets source (g.W.Sink.state c.args.sink.now)) (search rules) (search rules)
-
-pub returns-in-Err-clause-imports : goal.returns-in-Err-clause-imports
-returns-in-Err-clause-imports g c = λ source.
-    told_after g.D.Disk.state c.import_on-met.result.0 (c.import_on-met.ensures.meets source (g.W.Sink.state c.args.sink.now)) (search rules) (search rules)
+pub returns : goal.returns
+returns g c = record {
+  does = λ source sink.
+      let shelf = g.F.Shelf.state in
+      let disk = g.D.Disk.state in
+      let met = c.import_on-end in
+      subst (λ d. AtSeason c.args.season.now c.args.files.now (world_at (shelf c.args.shelf.now) source sink (disk c.args.disk.now))
+      (world_at (shelf met.new.shelf) source sink (disk d)) met.result.0) (search rules) (met.ensures.does source sink);
+}

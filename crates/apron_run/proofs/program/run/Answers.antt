@@ -1,11 +1,10 @@
-use Rattle.std.proofs.Common.{◌≡◌, ℕ, List, [], subst}
+use Rattle.std.proofs.Common.{◌≡◌, List, [], subst}
 use Rattle.watch_list.specs.Watches.{shows}
 use Rattle.watch_list.specs.declared.note.Shown.{Shown}
 use Rattle.watch_list.specs.declared.watch.Watched.{Watched}
 use Rattle.desk_workers.specs.Watched.{FeedTexts, feed_texts}
-use Rattle.apron_run.specs.Headline.{TellsHeadline}
 use Rattle.apron_run.specs.Run.{RunsAs}
-use Rattle.apron_run.specs.Words.{desk, subcommand_of}
+use Rattle.apron_run.specs.Words.{subcommand_of}
 use Rattle.apron_run.specs.World.{World, world_at}
 use Rattle.apron_run.proofs.program.run.Goals as goal
 
@@ -18,12 +17,4 @@ returns-clause-headline g c =
     let before : World = world_at (g.F.Shelf.state c.args.shelf.now) (g.S.Source.state c.args.source.now) (g.W.Sink.state c.args.sink.now) (g.D.Disk.state c.args.disk.now) in
     let after : World = world_at (g.F.Shelf.state c.run_with.new.shelf) (g.S.Source.state c.run_with.new.source) (g.W.Sink.state c.run_with.new.sink)
     (g.D.Disk.state c.run_with.new.disk) in
-    of_none (λ feeds. (airport types : List ℕ) → subcommand_of c.args.words.now ≡ desk airport types → TellsHeadline feeds airport types before after c.run_with.result)
-    c.none-watches.result c.none-watches.ensures.none c.run_with.ensures.headline
-
-pub returns-clause-runs : goal.returns-clause-runs
-returns-clause-runs g c =
-    let before : World = world_at (g.F.Shelf.state c.args.shelf.now) (g.S.Source.state c.args.source.now) (g.W.Sink.state c.args.sink.now) (g.D.Disk.state c.args.disk.now) in
-    let after : World = world_at (g.F.Shelf.state c.run_with.new.shelf) (g.S.Source.state c.run_with.new.source) (g.W.Sink.state c.run_with.new.sink)
-    (g.D.Disk.state c.run_with.new.disk) in
-    of_none (λ feeds. RunsAs feeds (subcommand_of c.args.words.now) before after c.run_with.result) c.none-watches.result c.none-watches.ensures.none c.run_with.ensures.runs
+    of_none (λ feeds. RunsAs feeds (subcommand_of c.args.words.now) before after c.run_with.result) c.none-watches.result c.none-watches.ensures.none c.run_with.ensures.headline

@@ -2,9 +2,10 @@ use Rattle.std.proofs.Common.{◌≡◌, ◌∙◌, ◌<◌, ◌≤◌, ◌+◌,
 use Rattle.std.proofs.lemmas.List.{take_more}
 use Rattle.apron_rules.specs.declared.parts.AirportParts.{AirportParts}
 use Rattle.visit_book.specs.declared.visits.NewVisit.{NewVisit}
-use Rattle.apron_run.specs.Asking.{AsksOnce, MeetsAll, Reached, StopsImport, reached_by, record_behind}
+use Rattle.apron_run.specs.Asking.{AsksOnce, MeetsAll, Reached, StopsImport}
 use Rattle.apron_run.proofs.Asking.{among_season, meets_push, one_counts}
 use Rattle.apron_run.proofs.season.ask_season.Goals as goal
+use Rattle.history_core.specs.Board.{machine_state}
 
 -- the visits up to one, and that one
 taken_more : (visits : List NewVisit) (k : ℕ) (new : NewVisit) → k < length visits → new ≡ get_or visits k new → take (k + 1) visits ≡ take k visits ++ new ∷ []
@@ -17,16 +18,16 @@ parted_at visits k new less is =
     ∙ ap (λ (n : NewVisit). take k visits ++ n ∷ drop (suc k) visits) (sym is))
 
 -- this many visits are before it
-numbered : (visits : List NewVisit) (k : ℕ) → k < length visits → k + 2 ≡ record_behind (take k visits)
+numbered : (visits : List NewVisit) (k : ℕ) → k < length visits → k + 2 ≡ length (take k visits) + 2
 numbered visits k less = ap (λ (n : ℕ). n + 2) (sym (length-take-le k visits (omega (arith, less))))
 
 pub returns-in-Err-clause-asks : goal.returns-in-Err-clause-asks
 returns-in-Err-clause-asks g c =
     let visits = c.args.visits.now in
     let airport = c.args.board.now.airport in
-    let before : Reached = reached_by g.K.Keeper.state c.args.board.now in
-    let at : Reached = reached_by g.K.Keeper.state c.loop-k.board in
-    let after : Reached = reached_by g.K.Keeper.state c.ask_visit.new.board in
+    let before : Reached = machine_state g.K.Keeper.state c.args.board.now in
+    let at : Reached = machine_state g.K.Keeper.state c.loop-k.board in
+    let after : Reached = machine_state g.K.Keeper.state c.ask_visit.new.board in
     let k = c.loop-k.k in
     let new = c.index-visits-k.result in
     let stop = c.in-Err.stop in
@@ -46,9 +47,9 @@ pub loop-k-preserved : goal.loop-k-preserved
 loop-k-preserved g c =
     let visits = c.args.visits.now in
     let airport = c.args.board.now.airport in
-    let before : Reached = reached_by g.K.Keeper.state c.args.board.now in
-    let mid : Reached = reached_by g.K.Keeper.state c.loop-k.board in
-    let after : Reached = reached_by g.K.Keeper.state c.ask_visit.new.board in
+    let before : Reached = machine_state g.K.Keeper.state c.args.board.now in
+    let mid : Reached = machine_state g.K.Keeper.state c.loop-k.board in
+    let after : Reached = machine_state g.K.Keeper.state c.ask_visit.new.board in
     let k = c.loop-k.k in
     let new = c.index-visits-k.result in
     let one : AsksOnce airport mid new after = subst (λ (a : AirportParts). AsksOnce a mid new after) c.loop-k.invariant.airport c.in_default.ensures.met in

@@ -5,7 +5,8 @@ use Rattle.plan_core.specs.PlanState.{PlanState}
 use Rattle.history_core.specs.Answer.{ActsAs}
 use Rattle.history_core.specs.AtRisk.{LeavesAtRisk}
 use Rattle.history_core.specs.History.{replay}
-use Rattle.apron_run.specs.Asking.{IsMissing, Reached, reached_by}
+use Rattle.history_core.specs.Board.{machine_state}
+use Rattle.apron_run.specs.Asking.{IsMissing, Reached}
 use Rattle.apron_run.proofs.Asking.{asking, standing_at, stops_missing}
 use Rattle.apron_run.proofs.season.ask_visit.Goals as goal
 
@@ -16,8 +17,8 @@ err_by (Err why) follows cause = follows why cause
 
 pub returns-in-Reply-2-clause-stops : goal.returns-in-Reply-2-clause-stops
 returns-in-Reply-2-clause-stops g c =
-    let before : Reached = reached_by g.K.Keeper.state c.args.board.now in
-    let after : Reached = reached_by g.K.Keeper.state c.ask.new.self in
+    let before : Reached = machine_state g.K.Keeper.state c.args.board.now in
+    let after : Reached = machine_state g.K.Keeper.state c.ask.new.self in
     let airport = c.args.board.now.airport in
     let new = c.args.new.now in
     let number = c.args.number in

@@ -1,4 +1,4 @@
-use Rattle.std.proofs.Common.{◌≡◌, ◌∙◌, ℕ, List, Result, ap, false, length, subst, sym, true}
+use Rattle.std.proofs.Common.{◌≡◌, ◌∙◌, ℕ, List, Result, ap, false, inl, length, refl, subst, sym, true}
 use Rattle.std.specs.Prelude.{IfErr, OnOk, is_err}
 use Rattle.apron_base.specs.Counts.{Counts}
 use Rattle.journal_disk.specs.Disk.{IfExposed}
@@ -14,7 +14,14 @@ pub returns-in-Err : goal.returns-in-Err
 returns-in-Err g c =
     let before = g.D.Disk.state c.args.disk in
     let after = g.D.Disk.state c.in-Err.disk in
-    record { meets = not_opened c.args.files.now before after c.in-Err.fault c.in-Err.ensures.refused c.in-Err.ensures.stays }
+    record {
+      does = λ shelf source sink. record {
+        shelf = refl;
+        source = refl;
+        sink = refl;
+        uses = not_opened c.args.files.now before after c.in-Err.fault c.in-Err.ensures.refused c.in-Err.ensures.stays;
+      };
+    }
 
 pub returns-in-Ok-switched : goal.returns-in-Ok-switched
 returns-in-Ok-switched g c =
@@ -34,8 +41,17 @@ returns-in-Ok-switched g c =
     let counts : Counts false opened.faults after.faults =
     subst (λ (r : Result (Unit {0}) JournalFault). Counts (is_err r) opened.faults after.faults) c.in-Ok-switched.is switch.counts in
     record {
-      meets = upgraded files (g.D.Disk.state c.args.disk) opened after held.size held.entries new switch.size was stays switch.continues switch.crash done c.len.result converted
-          (g.met.D.Disk.reads c.switch-switched.result.1) (counts ∙ still) (c.len.ensures.count ∙ ap (λ (es : List (List ℕ)). length es) (sym c.as_slice.ensures.items));
+      does = λ shelf source sink. record {
+        shelf = refl;
+        source = refl;
+        sink = refl;
+        uses = inl (
+          c.len.result,
+          refl,
+          upgraded files (g.D.Disk.state c.args.disk) opened after held.size held.entries new switch.size was stays switch.continues switch.crash done c.len.result converted
+              (g.met.D.Disk.reads c.switch-switched.result.1) (counts ∙ still) (c.len.ensures.count ∙ ap (λ (es : List (List ℕ)). length es) (sym c.as_slice.ensures.items)),
+        );
+      };
     }
 
 pub returns : goal.returns
@@ -56,6 +72,11 @@ returns g c =
     let counts : Counts true opened.faults after.faults =
     subst (λ (r : Result (Unit {0}) JournalFault). Counts (is_err r) opened.faults after.faults) c.in-Err-switched.is switch.counts in
     record {
-      meets = stopped files (g.D.Disk.state c.args.disk) opened after held.size held.entries new switch.size was stays switch.continues switch.crash c.in-Err-switched.fault is
-          converted still counts;
+      does = λ shelf source sink. record {
+        shelf = refl;
+        source = refl;
+        sink = refl;
+        uses = stopped files (g.D.Disk.state c.args.disk) opened after held.size held.entries new switch.size was stays switch.continues switch.crash c.in-Err-switched.fault is
+            converted still counts;
+      };
     }

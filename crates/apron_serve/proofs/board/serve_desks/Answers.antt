@@ -1,7 +1,6 @@
 use denote.Param.Send.{param_send}
-use Rattle.std.proofs.Common.{◌≡◌, ◌∙◌, ℕ, List, IfOk, None, ap, length, map, refl, subst, sym}
+use Rattle.std.proofs.Common.{◌≡◌, ◌∙◌, ℕ, List, IfOk, false, ap, length, map, refl, subst, sym}
 use Rattle.std.proofs.lemmas.List.{length-map}
-use Rattle.history_core.specs.AtRisk.{read_entry_at_risk}
 use Rattle.history_core.specs.Board.{machine_state}
 use Rattle.watch_list.specs.declared.watch.Watched.{Watched}
 use Rattle.desk_workers.specs.Crew.{ServesBoard}
@@ -12,6 +11,7 @@ use Rattle.apron_run.specs.Opened.{journal_tells}
 use Rattle.apron_run.specs.Survival.{Survives}
 use Rattle.apron_run.proofs.Fronts.{stays_both}
 use Rattle.apron_run.proofs.Serving.{opened_from, unopened_from}
+use Rattle.apron_serve.specs.Noted.{has_missed}
 use Rattle.apron_serve.specs.World.{serve_world_at}
 use Rattle.apron_serve.proofs.Crosses.{files_send}
 use Rattle.apron_serve.proofs.Desks.{desks_serve, of_err, of_ok, opened_safe, turns_want_memory}
@@ -38,24 +38,22 @@ returns-in-Ok-served-clause-meets g c = λ shelf read sink wrote.
     let next : hall.begun ≡ c.in-Ok.board.board.next =
     of_ok c.serve_watched-served.result.0 c.in-Ok-served.ends c.in-Ok-served.is c.serve_watched-served.ensures.begun ∙ c.in-Ok.ensures.next in
     desks_serve (record { states = g.L.Workplace.states; feeds = feed_texts g.R.Stated.tells c.args.watches.now }) tells c.args.files.now c.args.task
-    (serve_world_at shelf (map g.L.Workplace.state c.args.listeners.now) (map g.L.Workplace.state c.args.screens.now) sink begun None)
-    (serve_world_at read (map g.L.Workplace.state c.serve_watched-served.new.listeners) (map g.L.Workplace.state c.serve_watched-served.new.walls) wrote closed c.note-note.result)
-    c.in-Ok.board.board hall c.serve_watched-served.result.0 c.in-Ok-served.ends c.served_end-end.result
+    (serve_world_at shelf (map g.L.Workplace.state c.args.listeners.now) (map g.L.Workplace.state c.args.screens.now) sink begun false)
+    (serve_world_at read (map g.L.Workplace.state c.serve_watched-served.new.listeners) (map g.L.Workplace.state c.serve_watched-served.new.walls) wrote closed (has_missed c.note-note.result))
+    c.in-Ok.board.board hall c.serve_watched-served.result.0 c.in-Ok-served.ends c.served_end-end.result c.note-note.result
     (opened_from tells c.args.files.now begun (g.D.Disk.state c.args.disk) c.in-Ok.board.board c.requires.begun c.in-Ok.ensures.opened) c.in-Ok-served.is
     (subst (λ (watches : List (Watched g.row.R.Denot)). IfOk c.serve_watched-served.result.0 (λ ends. ServesBoard g.L.Workplace.states
     (fed_sessions (feed_texts g.R.Stated.tells watches)) c.args.task.connections
     (record { listeners = map g.L.Workplace.state c.args.listeners.now; board = machine_state tells c.in-Ok.board.board })
     (record { listeners = map g.L.Workplace.state c.serve_watched-served.new.listeners; board = machine_state tells left }) ends.desks))
     c.in-Ok.ensures.watches c.serve_watched-served.ensures.serves) c.serve_watched-served.ensures.shows
-    writers next c.note-note.ensures.value c.served_end-end.ensures.is
+    writers next c.note-note.ensures.value refl c.served_end-end.ensures.is
     (ap (λ d. (g.D.Disk.state d).faults) (c.close_board.ensures.disk ∙ ap (λ b. b.keeper.disk) same))
-    (subst (λ (digests : List ℕ). KeepsHistory (record { airport = left.airport; digests = digests }) left.history
-    (read_entry_at_risk left.airport (tells left.keeper)) closed)
+    (subst (λ (digests : List ℕ). KeepsHistory (record { airport = left.airport; digests = digests }) left.history left.at_risk closed)
     (sym c.requires.digests)
-    (subst (λ b. KeepsHistory (record { airport = b.airport; digests = g.N.OfFiles.digests }) b.history
-    (read_entry_at_risk b.airport (tells b.keeper)) closed) same c.close_board.ensures.keeps))
-    (subst (λ (digests : List ℕ). Survives digests left.history (read_entry_at_risk left.airport (tells left.keeper)) begun closed) (sym c.requires.digests)
-    (subst (λ b. Survives g.N.OfFiles.digests b.history (read_entry_at_risk b.airport (tells b.keeper)) begun closed) same c.close_board.ensures.survives))
+    (subst (λ b. KeepsHistory (record { airport = b.airport; digests = g.N.OfFiles.digests }) b.history b.at_risk closed) same c.close_board.ensures.keeps))
+    (subst (λ (digests : List ℕ). Survives digests left.history left.at_risk begun closed) (sym c.requires.digests)
+    (subst (λ b. Survives g.N.OfFiles.digests b.history b.at_risk begun closed) same c.close_board.ensures.survives))
 
 pub returns-in-Err-served-clause-meets : goal.returns-in-Err-served-clause-meets
 returns-in-Err-served-clause-meets g c = λ shelf read sink wrote.
@@ -64,20 +62,26 @@ returns-in-Err-served-clause-meets g c = λ shelf read sink wrote.
     let refused = of_err c.serve_watched-served.result.0 c.in-Err-served.field-0 c.in-Err-served.is c.serve_watched-served.ensures.refused in
     let closed = c.into_board-in-Err-served-2.ensures.value ∙ ap (λ w. w.board) c.into_board-in-Err-served.ensures.board in
     let same = c.close_board-in-Err-served.ensures.disk ∙ ap (λ b. b.keeper.disk) (closed ∙ refused.2) in
-    turns_want_memory (journal_tells g.D.Disk.state) c.args.files.now
-    (serve_world_at shelf (map g.L.Workplace.state c.args.listeners.now) (map g.L.Workplace.state c.args.screens.now) sink begun None)
-    (serve_world_at read (map g.L.Workplace.state c.serve_watched-served.new.listeners) (map g.L.Workplace.state c.serve_watched-served.new.walls) wrote (g.D.Disk.state c.close_board-in-Err-served.result) None)
-    c.in-Ok.board.board
-    (opened_from (journal_tells g.D.Disk.state) c.args.files.now begun opened c.in-Ok.board.board c.requires.begun c.in-Ok.ensures.opened)
-    (ap (map g.L.Workplace.state) refused.0) (ap (map g.L.Workplace.state) refused.1) refl
-    (stays_both begun opened (g.D.Disk.state c.close_board-in-Err-served.result) (let unwritten = c.requires.begun in unwritten.stays)
-    (subst (λ d. Stays opened (g.D.Disk.state d)) (sym same) c.in-Ok.ensures.stays))
-    (ap (λ d. (g.D.Disk.state d).faults) same)
+    record {
+      noted = refl;
+      meets = turns_want_memory (journal_tells g.D.Disk.state) c.args.files.now
+          (serve_world_at shelf (map g.L.Workplace.state c.args.listeners.now) (map g.L.Workplace.state c.args.screens.now) sink begun false)
+          (serve_world_at read (map g.L.Workplace.state c.serve_watched-served.new.listeners) (map g.L.Workplace.state c.serve_watched-served.new.walls) wrote (g.D.Disk.state c.close_board-in-Err-served.result) false)
+          c.in-Ok.board.board
+          (opened_from (journal_tells g.D.Disk.state) c.args.files.now begun opened c.in-Ok.board.board c.requires.begun c.in-Ok.ensures.opened)
+          (ap (map g.L.Workplace.state) refused.0) (ap (map g.L.Workplace.state) refused.1) refl
+          (stays_both begun opened (g.D.Disk.state c.close_board-in-Err-served.result) (let unwritten = c.requires.begun in unwritten.stays)
+          (subst (λ d. Stays opened (g.D.Disk.state d)) (sym same) c.in-Ok.ensures.stays))
+          (ap (λ d. (g.D.Disk.state d).faults) same);
+    }
 
 pub returns-in-Err-clause-meets : goal.returns-in-Err-clause-meets
 returns-in-Err-clause-meets g c = λ shelf read sink wrote. record {
-  listeners = refl;
-  screens = refl;
-  uses = unopened_from c.args.files.now g.N.OfFiles.begun (g.D.Disk.state c.args.disk) (g.D.Disk.state c.in-Err.disk) c.requires.begun c.in-Err.why c.in-Err.ensures.refused;
-  note = refl;
+  noted = refl;
+  meets = record {
+    listeners = refl;
+    screens = refl;
+    uses = unopened_from c.args.files.now g.N.OfFiles.begun (g.D.Disk.state c.args.disk) (g.D.Disk.state c.in-Err.disk) c.requires.begun c.in-Err.why c.in-Err.ensures.refused;
+    missed = refl;
+  };
 }

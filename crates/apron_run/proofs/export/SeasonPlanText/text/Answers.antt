@@ -1,5 +1,4 @@
-use Rattle.apron_run.proofs.Exporting.{visits_new}
-use Rattle.apron_run.proofs.PlanTexts.{plan_airport}
+use Rattle.apron_run.proofs.PlanTexts.{plan_airport, visits_new}
 use Rattle.apron_run.proofs.export.SeasonPlanText.text.Goals as goal
 
 pub write_season-requires : goal.write_season-requires

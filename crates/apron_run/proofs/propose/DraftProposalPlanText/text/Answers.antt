@@ -6,7 +6,6 @@ use Rattle.plan_core.specs.PlanState.{PlanState}
 use Rattle.history_core.specs.History.{replay}
 use Rattle.proposal_text.specs.Lines.{IsDraftText}
 use Rattle.apron_run.proofs.PlanTexts.{plan_airport}
-use Rattle.apron_run.proofs.Proposing.{all_proposed}
 use Rattle.apron_run.proofs.propose.DraftProposalPlanText.text.Goals as goal
 
 pub draft_text-requires : goal.draft_text-requires
@@ -20,6 +19,5 @@ returns g c =
     let is : c.plan.result.now.plan ≡ replay airport board.history =
     c.plan.ensures.replay ∙ ap (λ (a : AirportParts). replay a board.history) (sym c.requires.airport) in
     record {
-      answers = all_proposed airport board.history asked.desk asked.draft c.draft_text.result c.requires.legal
-          (subst (λ (plan : PlanState). IfOk c.draft_text.result (IsDraftText plan (draft_version plan.drafts asked.desk asked.draft))) is c.draft_text.ensures.text);
+      answers = subst (λ (plan : PlanState). IfOk c.draft_text.result (IsDraftText plan (draft_version plan.drafts asked.desk asked.draft))) is c.draft_text.ensures.text;
     }

@@ -1,7 +1,7 @@
 use Rattle.std.proofs.Common.{◌++◌, ℕ, List}
 use Rattle.std.specs.Prelude.{codes, decimal}
 use Rattle.apron_check.proofs.Puts.{cut_more, puts_both, puts_cut}
-use Rattle.apron_run.proofs.upgrade.put_upgraded.Goals as goal
+use Rattle.apron_run.proofs.print.put_upgraded.Goals as goal
 
 pub returns-in_err-put_number : goal.returns-in_err-put_number
 returns-in_err-put_number g c =

@@ -1,4 +1,4 @@
-use Rattle.apron_run.proofs.desk.run_on_journal.Given as goal
+use Rattle.apron_run.proofs.desk.serve_desk.Given as goal
 
 abbrev pub ghosts-serve_on-N-Named : goal.ghosts-serve_on-N-Named
 ghosts-serve_on-N-Named g a = record { name = a.disk.ghost_name }

@@ -1,4 +1,4 @@
-use Rattle.apron_run.proofs.plan_text.print_of_journal.Given as goal
+use Rattle.apron_run.proofs.plan_text.text_of_journal.Given as goal
 
 abbrev pub ghosts-text_on-N-Named : goal.ghosts-text_on-N-Named
 ghosts-text_on-N-Named g a = record { name = a.disk.ghost_name }
