@@ -7,12 +7,18 @@ from contracts import TOP, text_of
 NAME = re.compile(r"[A-Za-z_][\w'-]*")
 IMPORT = re.compile(r"^\s*(?:ghost )?use (Rattle\.[\w.]+?)(?:\.\{(.*?)\})?(?: as (\w+))?;?\s*$", re.M)
 DEFINED = re.compile(
-    r"^ *(?:(?:abbrev|unfoldable|pub|private) )*(?:(?:record|data) ([A-Za-z_][\w'-]*)|([A-Za-z_][\w'-]*)(?: :|\n *:))", re.M)
+    r"^ *(?:(?:abbrev|unfoldable|pub|private) )*(?:(?:record|data) ([A-Za-z_][\w'-]*)|([A-Za-z_][\w'-]*|◌\S+◌)(?: :|\n *:))", re.M)
 ITEM = re.compile(r"^(?:pub(?:\(crate\))? )?(?:struct|enum|const) (\w+)", re.M)
 
 
 def without_comments(text):
     return "\n".join(it.split("--")[0] for it in text.split("\n"))
+
+
+def named_in(text, known):
+    """Returns which of these names a text writes: words, and operators as `◌>>=◌`, which `do` writes as `←`."""
+    words = set(NAME.findall(text))
+    return {it for it in known if it in words or "◌" in it and (it.strip("◌") in text or it == "◌>>=◌" and "←" in text)}
 
 
 def imports_of(text):
@@ -28,7 +34,7 @@ def imports_of(text):
 
 
 class Module:
-    """A file of definitions: paragraphs, of which each has its comment, its definition and what it names."""
+    """A file of definitions: paragraphs, of which each has its comment and its definition, by the names that it defines."""
 
     def __init__(self, path):
         text = text_of(path)
@@ -43,11 +49,15 @@ class Module:
             opens = [it for it in lines if it.lstrip().startswith("module _")]
             header = opens[-1] if opens else header if lines[0].startswith(" ") else ""
             number = len(self.paragraphs)
-            self.paragraphs.append((paragraph, set(NAME.findall("\n".join([header, *lines])))))
-            for kept, declared in DEFINED.findall("\n".join(lines)):
+            self.paragraphs.append((paragraph, "\n".join([header, *lines])))
+            if opens and lines[0] == opens[0]:
+                del lines[: 1 + next(at for at, it in enumerate(lines) if it.endswith(" where"))]
+            # A field names nothing: whose it is, the type of what has it says.
+            is_record = lines and re.match(r" *(?:pub )?record ", lines[0])
+            for kept, declared in DEFINED.findall(lines[0] if is_record else "\n".join(lines)):
                 self.named.setdefault(kept or declared, number)
-            # The constructors of a type and the fields of a record.
-            for names in re.findall(r"^ +(?:pub )?((?!(?:abbrev|unfoldable|pub|private|record|data) )\w+(?: \w+)*) :", body, re.M):
+            # The constructors of a type.
+            for names in [] if is_record else re.findall(r"^ +((?!(?:abbrev|unfoldable|pub|private|record|data) )\w+(?: \w+)*) :", "\n".join(lines), re.M):
                 for name in names.split():
                     self.named.setdefault(name, number)
 
@@ -98,7 +108,7 @@ class Reach:
     def add(self, path, text):
         """Adds all that this text of a file of code names."""
         imports = imports_of(text_of(path))
-        for it in sorted(set(NAME.findall(text)) & imports.keys()):
+        for it in sorted(named_in(text, imports)):
             self.visit(imports[it][0], imports[it][1] or it)
 
     def visit(self, module, name):
@@ -113,13 +123,12 @@ class Reach:
         number = file.named.get(name)
         if number is None or (module, number) in self.read:
             return
-        paragraph, named = file.paragraphs[number]
+        paragraph, text = file.paragraphs[number]
         self.read[module, number] = paragraph
-        for it in sorted(named):
-            if it in file.named:
-                self.visit(module, it)
-            elif it in file.imports:
-                self.visit(file.imports[it][0], file.imports[it][1] or it)
+        for it in sorted(named_in(text, file.named)):
+            self.visit(module, it)
+        for it in sorted(named_in(text, file.imports.keys() - file.named.keys())):
+            self.visit(file.imports[it][0], file.imports[it][1] or it)
 
     def visit_item(self, crate, place, name):
         source = sources.setdefault(place, sources.get(place) or Source(place))
