@@ -236,6 +236,11 @@ pub kept_by : {E : Type 0} (used : Bool) (old new : E) → (used ≡ false → n
 kept_by true old new same = tt
 kept_by false old new same = same refl
 
+-- the number of a run is that of its end's status; or all was done, and the sink failed at the line
+abbrev pub EndsAt : World → World → End → ℕ → Type 0
+EndsAt before after end code =
+    (code ≡ exit_code (status_of end)) ⊎ ((code ≡ exit_code WriteFault) × (status_of end ≡ Done) × Rose before.sink.faults after.sink.faults)
+
 -- a count that rose and then doesn't fall
 pub rose_on : (before mid after : ℕ) → Rose before mid → mid ≤ after → Rose before after
 rose_on before mid after rose least = let low : min (before + 1) last_count ≤ mid = rose in omega arith
@@ -251,36 +256,33 @@ module _ (feeds : FeedTexts) (asked : Subcommand) (before after : World) (code :
   pub line_least : runs.written.faults ≤ after.sink.faults
   line_least = sink_least (status_of runs.end) (cut_status_of runs.end) runs.written after.sink runs.status (line_of runs.end) runs.tells
 
-  -- the number is that of the end's status; or all was done, and the sink failed at the line
-  pub ran : (code ≡ exit_code (status_of runs.end)) ⊎ ((code ≡ exit_code WriteFault) × (status_of runs.end ≡ Done) × Rose before.sink.faults after.sink.faults)
+  pub ran : EndsAt before after runs.end code
   ran = by_line (told_by (status_of runs.end) (cut_status_of runs.end) runs.written after.sink runs.status (line_of runs.end) runs.tells)
     where
       by_cut : runs.status ≡ cut_status_of runs.end → Rose runs.written.faults after.sink.faults
           → (cut_status_of runs.end ≡ status_of runs.end) ⊎ ((cut_status_of runs.end ≡ WriteFault) × (status_of runs.end ≡ Done) × (runs.written ≡ before.sink))
-          → (code ≡ exit_code (status_of runs.end)) ⊎ ((code ≡ exit_code WriteFault) × (status_of runs.end ≡ Done) × Rose before.sink.faults after.sink.faults)
+          → EndsAt before after runs.end code
       by_cut is rose (inl same) = inl (runs.code_is ∙ ap exit_code (is ∙ same))
       by_cut is rose (inr (cut, done, still)) =
           inr (runs.code_is ∙ ap exit_code (is ∙ cut), done, subst (λ (s : SinkState). Rose s.faults after.sink.faults) still rose)
 
       by_line : (runs.status ≡ status_of runs.end) ⊎ ((runs.status ≡ cut_status_of runs.end) × Rose runs.written.faults after.sink.faults)
-          → (code ≡ exit_code (status_of runs.end)) ⊎ ((code ≡ exit_code WriteFault) × (status_of runs.end ≡ Done) × Rose before.sink.faults after.sink.faults)
+          → EndsAt before after runs.end code
       by_line (inl is) = inl (runs.code_is ∙ ap exit_code is)
       by_line (inr (is, rose)) = by_cut is rose (cut_of asked before mid runs.end says.0)
 
-  blamed : (status : Status) → ((other : Status) → exit_code other ≡ exit_code status → other ≡ status) → exit_code status ≢ exit_code WriteFault → code ≡ exit_code status
-      → Blames asked before mid status
+  -- what a number says that isn't that of a failed sink, and what that says
+  blamed : (status : Status) → ((other : Status) → exit_code other ≡ exit_code status → other ≡ status) → exit_code status ≢ exit_code WriteFault → code ≡ exit_code status → Blames asked before mid status
   blamed status once other is = by_ran ran
     where
-      by_ran : (code ≡ exit_code (status_of runs.end)) ⊎ ((code ≡ exit_code WriteFault) × (status_of runs.end ≡ Done) × Rose before.sink.faults after.sink.faults)
-          → Blames asked before mid status
+      by_ran : EndsAt before after runs.end code → Blames asked before mid status
       by_ran (inl same) = subst (Blames asked before mid) (once (status_of runs.end) (sym same ∙ is)) says.1
       by_ran (inr (cut, done, rose)) = absurd (other (sym is ∙ cut))
 
   sink_blamed : code ≡ exit_code WriteFault → Rose before.sink.faults after.sink.faults
   sink_blamed is = by_ran ran
     where
-      by_ran : (code ≡ exit_code (status_of runs.end)) ⊎ ((code ≡ exit_code WriteFault) × (status_of runs.end ≡ Done) × Rose before.sink.faults after.sink.faults)
-          → Rose before.sink.faults after.sink.faults
+      by_ran : EndsAt before after runs.end code → Rose before.sink.faults after.sink.faults
       by_ran (inl same) = rose_on before.sink.faults runs.written.faults after.sink.faults
           (subst (Blames asked before mid) (write_once (status_of runs.end) (sym same ∙ is)) says.1) line_least
       by_ran (inr (cut, done, rose)) = rose
@@ -303,8 +305,7 @@ module _ (feeds : FeedTexts) (asked : Subcommand) (before after : World) (code :
       is : runs.end ≡ Unasked
       is = let (is, untouched) = subst (λ (a : Subcommand). Does feeds a before mid runs.end) none runs.does in is
 
-      by_ran : (code ≡ exit_code (status_of runs.end)) ⊎ ((code ≡ exit_code WriteFault) × (status_of runs.end ≡ Done) × Rose before.sink.faults after.sink.faults)
-          → code ≡ exit_code Usage
+      by_ran : EndsAt before after runs.end code → code ≡ exit_code Usage
       by_ran (inl same) = same ∙ ap (λ (e : End). exit_code (status_of e)) is
       by_ran (inr (cut, done, rose)) = let both : Usage ≡ Done = sym (ap status_of is) ∙ done in absurd cc
 
@@ -316,8 +317,7 @@ module _ (feeds : FeedTexts) (asked : Subcommand) (before after : World) (code :
       → KeptUnless (uses code) old new
   kept uses old new alike same = kept_by (uses code) old new (λ none. same (by_ran none ran))
     where
-      by_ran : uses code ≡ false → (code ≡ exit_code (status_of runs.end)) ⊎ ((code ≡ exit_code WriteFault) × (status_of runs.end ≡ Done) × Rose before.sink.faults after.sink.faults)
-          → uses (exit_code (status_of runs.end)) ≡ false
+      by_ran : uses code ≡ false → EndsAt before after runs.end code → uses (exit_code (status_of runs.end)) ≡ false
       by_ran none (inl is) = subst (λ (n : ℕ). uses n ≡ false) is none
       by_ran none (inr (cut, done, rose)) = ap (λ (s : Status). uses (exit_code s)) done ∙ (alike ∙ subst (λ (n : ℕ). uses n ≡ false) cut none)
 

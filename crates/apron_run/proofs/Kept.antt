@@ -60,9 +60,9 @@ pub not_both : {P : Type 0} (used : Bool) → used ≡ true → used ≡ false �
 not_both used on off = absurd cc
 
 -- what ends at a journal, or says why there is none, used the disk
-module _ (uses : ℕ → Bool) (all : uses (exit_code Done) ≡ true) (failed : uses (exit_code DiskFault) ≡ true) (none : uses (exit_code JournalFault) ≡ true)
-    (wanting : uses (exit_code Memory) ≡ true) (made : AirportFiles) where
-  unworkable_used : (before after : DiskState) (why : Unusable) → WhyUnusable made before after why → uses (exit_code (status_of (Unworkable why))) ≡ true
+module _ (uses : ℕ → Bool) (failed : uses (exit_code DiskFault) ≡ true) (none : uses (exit_code JournalFault) ≡ true) (wanting : uses (exit_code Memory) ≡ true)
+    (made : AirportFiles) where
+  pub unworkable_used : (before after : DiskState) (why : Unusable) → WhyUnusable made before after why → uses (exit_code (status_of (Unworkable why))) ≡ true
   unworkable_used before after (Journal journal.DiskFault) cause = failed
   unworkable_used before after (Journal journal.NotEmpty) cause = absurd cause
   unworkable_used before after (Journal journal.Memory) cause = wanting
@@ -70,12 +70,12 @@ module _ (uses : ℕ → Bool) (all : uses (exit_code Done) ≡ true) (failed : 
   unworkable_used before after (Entries entries.Memory) cause = wanting
   unworkable_used before after (Entries fault) cause = none
 
-  pub plan_used : (Answers : AirportParts → List Entry → List ℕ → Type 0) (before after : World) (end : End) → AtPlan Answers made before after end
+  pub plan_used : uses (exit_code Done) ≡ true → (Answers : AirportParts → List Entry → List ℕ → Type 0) (before after : World) (end : End) → AtPlan Answers made before after end
       → uses (exit_code (status_of end)) ≡ true
-  plan_used Answers before after (Printed text) at = all
-  plan_used Answers before after (Faulty files.Memory) at = wanting
-  plan_used Answers before after (Unworkable why) at = unworkable_used before.disk after.disk why (let not = at.uses in not.cause)
-  plan_used Answers before after end at = absurd at
+  plan_used all Answers before after (Printed text) at = all
+  plan_used all Answers before after (Faulty files.Memory) at = wanting
+  plan_used all Answers before after (Unworkable why) at = unworkable_used before.disk after.disk why (let not = at.uses in not.cause)
+  plan_used all Answers before after end at = absurd at
 
 module _ (airport types : List ℕ) (made : AirportFiles) (before after : World) where
   -- a session takes the source, unless there is no journal to work on
@@ -90,7 +90,7 @@ module _ (airport types : List ℕ) (made : AirportFiles) (before after : World)
   desk_used feeds (Served came.Memory) at = refl
   desk_used feeds (Served outcome) at = refl
   desk_used feeds (Unworkable why) at =
-      unworkable_used (uses_disk (desk airport types)) refl refl refl refl made before.disk after.disk why (let not = at.uses in not.cause)
+      unworkable_used (uses_disk (desk airport types)) refl refl refl made before.disk after.disk why (let not = at.uses in not.cause)
   desk_used feeds end at = absurd at
 
   pub init_used : (end : End) → AtInit made before after end → uses_disk (init airport types) (exit_code (status_of end)) ≡ true
@@ -103,7 +103,7 @@ module _ (airport types : List ℕ) (made : AirportFiles) (before after : World)
   season_used season (Imported imports.Memory) at = refl
   season_used season (Imported how) at = refl
   season_used season (Unworkable why) at =
-      unworkable_used (uses_disk (import airport types season)) refl refl refl refl made before.disk after.disk why (let not = at.uses in not.cause)
+      unworkable_used (uses_disk (import airport types season)) refl refl refl made before.disk after.disk why (let not = at.uses in not.cause)
   season_used season end at = absurd at
 
   pub upgrade_used : (end : End) → AtUpgrade made before after end → uses_disk (upgrade airport types) (exit_code (status_of end)) ≡ true

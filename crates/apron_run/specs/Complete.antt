@@ -94,12 +94,16 @@ CanBeRun help world = Unit {0}
 CanBeRun version world = Unit {0}
 CanBeRun faulty world = ⊥
 
--- no end has a count of faults that rose or is at its greatest value
-pub record NoneFails (before after : World) : Type 0 where
+-- neither the shelf's count of faults nor the disk's rose or is at its greatest value
+pub record NoFileFails (before after : World) : Type 0 where
   pub shelf : ¬ (Rose before.shelf.faults after.shelf.faults)
+  pub disk : ¬ (Rose before.disk.faults after.disk.faults)
+
+-- and neither did that of the source or the sink
+pub record NoneFails (before after : World) : Type 0 where
+  pub files : NoFileFails before after
   pub source : ¬ (Rose before.source.faults after.source.faults)
   pub sink : ¬ (Rose before.sink.faults after.sink.faults)
-  pub disk : ¬ (Rose before.disk.faults after.disk.faults)
 
 -- all was done, or memory ran out
 abbrev pub EndsWell : ℕ → Type 0

@@ -7,14 +7,16 @@ use Rattle.history_core.specs.declared.opening.OpenFault.TheVariants as entries
 use Rattle.apron_check.specs.Lines.{fault_line}
 use Rattle.apron_check.specs.declared.faults.FilesFault.TheVariants as files
 use Rattle.apron_run.specs.Imported.{imported_text}
-use Rattle.apron_run.specs.Print.{Writes, usage_text}
+use Rattle.apron_run.specs.Print.{Writes, listener_line, usage_text}
+use Rattle.apron_run.specs.Statuses.{exit_code}
 use Rattle.apron_run.specs.Unusable.{unusable_text}
 use Rattle.apron_run.specs.World.{Untouched, World}
 use Rattle.apron_run.specs.declared.end.End.{End}
 use Rattle.apron_run.specs.declared.end.End.TheVariants as ended
+use Rattle.apron_run.specs.declared.end.ServeEnd.TheVariants as served
 use Rattle.apron_run.specs.declared.imported.Imported.TheVariants as import
 use Rattle.apron_run.specs.declared.status.Status.{Status}
-use Rattle.apron_run.specs.declared.status.Status.TheVariants.{Done, Usage, FileFault, ShelfFault, ReadFault, WriteFault, DiskFault, JournalFault, SeasonFault, Cut, Memory, Malformed, NotEmpty, Full, Limit, Spent}
+use Rattle.apron_run.specs.declared.status.Status.TheVariants.{Done, Usage, FileFault, ShelfFault, ReadFault, WriteFault, DiskFault, JournalFault, SeasonFault, Cut, ListenerFault, Memory, Malformed, NotEmpty, Full, Limit, Spent}
 use Rattle.apron_run.specs.declared.unusable.Unusable.TheVariants.{Journal, Entries}
 
 -- it ended so, and nothing of the outside was used
@@ -33,6 +35,9 @@ status_of (ended.Served came.ReadFault) = ReadFault
 status_of (ended.Served came.WriteFault) = WriteFault
 status_of (ended.Served came.Spent) = Spent
 status_of (ended.Served came.Memory) = Memory
+status_of (ended.Attended served.Done) = Done
+status_of (ended.Attended served.ListenerFault) = ListenerFault
+status_of (ended.Attended served.Missed) = Memory
 status_of (ended.Imported (import.Whole added present)) = Done
 status_of (ended.Imported import.ShelfFault) = ShelfFault
 status_of (ended.Imported import.TooLong) = SeasonFault
@@ -62,6 +67,9 @@ abbrev pub line_of : End → Option (List ℕ)
 line_of (ended.Printed text) = Some text
 line_of (ended.Served came.Memory) = Some (fault_line files.Memory)
 line_of (ended.Served outcome) = None
+line_of (ended.Attended served.Done) = None
+line_of (ended.Attended served.ListenerFault) = Some listener_line
+line_of (ended.Attended served.Missed) = Some (fault_line files.Memory)
 line_of (ended.Imported import.Spent) = None
 line_of (ended.Imported how) = Some (imported_text how ++ 10 ∷ [])
 line_of (ended.Faulty fault) = Some (fault_line fault)
@@ -73,3 +81,15 @@ abbrev pub TellsEnd : End → SinkState → SinkState → Status → Type 0
 TellsEnd end before after status = MatchOption (line_of end)
     ((after ≡ before) × (status ≡ status_of end))
     (λ line. Writes line (status_of end) (cut_status_of end) before after status)
+
+-- what came of a run or of serving, by what it does from one moment to the one at which no more
+-- than the last line is to be written: this was done, then the line of its end was written, and the
+-- number is that of its status
+pub record EndsAs (Does : World → World → End → Type 0) (before after : World)
+    (code : ℕ) : Type 0 where
+  pub status : Status
+  pub code_is : code ≡ exit_code status
+  pub written : SinkState
+  pub end : End
+  pub does : Does before (record after { sink = written }) end
+  pub tells : TellsEnd end written after.sink status

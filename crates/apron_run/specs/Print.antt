@@ -30,6 +30,10 @@ made_text = codes "ok\n"
 unfoldable pub usage_text : List ℕ
 usage_text = codes "usage\n"
 
+-- the line that tells that a listener failed
+unfoldable pub listener_line : List ℕ
+listener_line = codes "listener fault\n"
+
 -- what is printed after an upgrade, with the number of entries
 abbrev pub upgraded_text : ℕ → List ℕ
 upgraded_text count = (codes "upgraded " ++ decimal count) ++ codes "\n"

@@ -1,12 +1,10 @@
 -- What the program does with its words, its files, its bytes and its disk.
 use Rattle.std.specs.Prelude.{◌≡◌, ℕ, Bool, true, false}
-use Rattle.apron_base.specs.Ends.{SinkState}
 use Rattle.desk_workers.specs.Watched.{FeedTexts}
 use Rattle.apron_check.specs.Lines.{counts_line}
 use Rattle.apron_run.specs.Words.{Subcommand, desk, init, check, chart, import, export, propose, upgrade, make, help, version, faulty, number_within}
-use Rattle.apron_run.specs.End.{EndsUntouched, TellsEnd}
+use Rattle.apron_run.specs.End.{EndsAs, EndsUntouched}
 use Rattle.apron_run.specs.World.{World}
-use Rattle.apron_run.specs.Statuses.{exit_code}
 use Rattle.apron_run.specs.Desk.{AtDesk}
 use Rattle.apron_run.specs.Init.{AtInit}
 use Rattle.apron_run.specs.Chart.{AtDay}
@@ -20,7 +18,6 @@ use Rattle.apron_run.specs.Upgrade.{AtUpgrade}
 use Rattle.apron_run.specs.Print.{help_text, version_text}
 use Rattle.apron_run.specs.declared.end.End.{End}
 use Rattle.apron_run.specs.declared.end.End.TheVariants as ended
-use Rattle.apron_run.specs.declared.status.Status.{Status}
 
 -- `feeds` says what the reply to each feed is, by the airport and the history
 module _ (feeds : FeedTexts) where
@@ -43,14 +40,9 @@ module _ (feeds : FeedTexts) where
   Does faulty = EndsUntouched ended.Unasked
 
   -- What the program does for what is asked of it, what a crash in the run or after it may leave,
-  -- the line at its end, before which this was written, and the status of its number.
-  pub record RunsAs (asked : Subcommand) (before after : World) (code : ℕ) : Type 0 where
-    pub status : Status
-    pub code_is : code ≡ exit_code status
-    pub written : SinkState
-    pub end : End
-    pub does : Does asked before (record after { sink = written }) end
-    pub tells : TellsEnd end written after.sink status
+  -- the line at its end, and the status of its number.
+  abbrev pub RunsAs : Subcommand → World → World → ℕ → Type 0
+  RunsAs asked = EndsAs (Does asked)
 
 -- what isn't used stays as it is
 abbrev pub KeptUnless : {E : Type 0} → Bool → E → E → Type 0

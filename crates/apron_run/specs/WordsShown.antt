@@ -18,7 +18,7 @@ subcommand_at airport types asked.Export = export airport types
 subcommand_at airport types asked.Upgrade = upgrade airport types
 subcommand_at airport types (asked.Propose name draft) = propose airport types name draft
 
--- the same, with the names in place of the words
+-- what the words ask for, with the names in place of the words
 abbrev pub subcommand_shown : Read → Subcommand
 subcommand_shown (read.AtFiles airport types what) = subcommand_at airport.now types.now what
 subcommand_shown (read.Make visits) = make visits

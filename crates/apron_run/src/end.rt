@@ -5,12 +5,23 @@ ghost use Rattle.apron_run.specs.End.{TellsEnd, cut_status_of, line_of, status_o
 
 use crate::Status;
 use crate::imported::{Imported, put_imported};
-use crate::print::{Text, usage};
+use crate::print::{Text, listener_line, usage};
 use crate::unusable::{Unusable, put_unusable};
 use apron_base::{Failed, Outcome, Sink};
 use apron_check::{FilesFault, put_fault};
 use history_core::OpenFault;
 use journal_disk::JournalFault;
+
+/// How desks and screens were served.
+#[derive(Clone, Copy)]
+pub enum ServeEnd {
+    /// Each listener has had all its connections.
+    Done,
+    /// A listener failed.
+    ListenerFault,
+    /// All connections were served, but a screen's writer had no memory for the last version.
+    Missed,
+}
 
 /// How a run ended.
 #[derive(Drop)]
@@ -19,6 +30,8 @@ pub enum End {
     Printed(Text),
     /// A session was served, to this end.
     Served(Outcome),
+    /// Desks and screens were served, to this end.
+    Attended(ServeEnd),
     /// Visits were imported, to this end.
     Imported(Imported),
     /// The two files make no airport, or memory ran out.
@@ -49,6 +62,9 @@ fn put_line<W: Sink>(sink: &mut W, end: &End) -> Result<(), Failed>
         End::Printed(text) => text.put(sink),
         End::Served(Outcome::Memory) => put_fault(sink, &FilesFault::Memory),
         End::Served(_) => Ok(()),
+        End::Attended(ServeEnd::Done) => Ok(()),
+        End::Attended(ServeEnd::ListenerFault) => sink.put(listener_line()),
+        End::Attended(ServeEnd::Missed) => put_fault(sink, &FilesFault::Memory),
         End::Imported(imported) => put_imported(sink, imported),
         End::Faulty(fault) => put_fault(sink, fault),
         End::Unusable(why) => put_unusable(sink, why),
@@ -62,6 +78,9 @@ fn status_of(end: &End) -> Status
     match end {
         End::Printed(_) => Status::Done,
         End::Served(outcome) => status_of_outcome(*outcome),
+        End::Attended(ServeEnd::Done) => Status::Done,
+        End::Attended(ServeEnd::ListenerFault) => Status::ListenerFault,
+        End::Attended(ServeEnd::Missed) => Status::Memory,
         End::Imported(imported) => status_of_imported(*imported),
         End::Faulty(fault) => status_of_fault(fault),
         End::Unusable(Unusable::Journal(fault)) => status_of_journal(*fault),

@@ -26,7 +26,7 @@ mod unusable;
 mod upgrade;
 mod words;
 
-pub use end::{End, tell_end};
+pub use end::{End, ServeEnd, tell_end};
 pub use files_journal::{FilesJournal, OfFiles};
 pub use journal::{Access, close_board, open_board, open_watched};
 pub use laws::{ends_that_never_fail_tell_no_fault, second_imports_add_nothing};

@@ -1,7 +1,7 @@
 // What is printed if all was done. Writing it takes no memory.
 ghost use Rattle.std.specs.Prelude.{◌≡◌};
 ghost use Rattle.apron_base.specs.Ends.{Puts};
-ghost use Rattle.apron_run.specs.Print.{already_text, help_text, made_text, upgraded_text, usage_text, version_text};
+ghost use Rattle.apron_run.specs.Print.{already_text, help_text, listener_line, made_text, upgraded_text, usage_text, version_text};
 
 use apron_base::{Failed, Listed, Sink};
 use apron_check::{AirportFiles, put_counts, put_number};
@@ -89,6 +89,14 @@ pub(crate) fn usage() -> &'static [u8]
     ensures text { result.now ≡ usage_text }
 {
     b"usage\n"
+}
+
+/// What is printed if a listener failed.
+#[tactic(auto, unfolding(crate::specs::Print::listener_line))]
+pub(crate) fn listener_line() -> &'static [u8]
+    ensures text { result.now ≡ listener_line }
+{
+    b"listener fault\n"
 }
 
 // What is printed if a journal is of format 2 already.

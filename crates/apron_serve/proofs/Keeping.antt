@@ -1,69 +1,39 @@
--- What stays as it was, by what was met at the journal.
-use Rattle.std.proofs.Common.{◌≡◌, ◌<◌, ◌∙◌, ℕ, Bool, true, false, refl, sym, ap, subst, arith, Result, Ok, Err}
-use Rattle.std.specs.Prelude.{OnErr}
-use Rattle.std.proofs.lemmas.Bool.Decides.{nat_tests}
-use Rattle.apron_base.specs.Ends.{SinkState}
-use Rattle.journal_disk.specs.declared.fault.JournalFault.TheVariants as journal
-use Rattle.history_core.specs.declared.opening.OpenFault.TheVariants as entries
-use Rattle.apron_run.specs.Run.{KeptUnless}
+-- What stays as it was, by how serving ended.
+use Rattle.std.proofs.Common.{◌≡◌, Bool, true, false, List, map, refl}
+use Rattle.std.specs.Prelude.{not}
+use Rattle.apron_base.specs.Listener.{ListenerState}
+use Rattle.apron_check.specs.declared.files.AirportFiles.{AirportFiles}
+use Rattle.screen_server.specs.declared.shown.Task.{Task}
 use Rattle.apron_run.specs.End.{status_of}
+use Rattle.apron_run.specs.Run.{KeptUnless}
 use Rattle.apron_run.specs.Statuses.{exit_code}
-use Rattle.apron_run.specs.declared.end.End.TheVariants as ended
-use Rattle.apron_run.specs.declared.status.Status.{Status}
-use Rattle.apron_run.specs.declared.status.Status.TheVariants.{ListenerFault, Memory}
-use Rattle.apron_run.specs.declared.unusable.Unusable.{Unusable}
-use Rattle.apron_run.specs.declared.unusable.Unusable.TheVariants.{Journal, Entries}
-use Rattle.apron_run.proofs.Ends.{written_is}
-use Rattle.apron_serve.specs.Files.{PrintsServeEnd, listener_line}
-use Rattle.apron_serve.specs.Serve.{has_served, serve_ends_before_journal}
-use Rattle.apron_serve.specs.declared.board.ServeEnd.{ServeEnd}
-use Rattle.apron_serve.specs.declared.board.ServeEnd.TheVariants as end
+use Rattle.apron_run.specs.World.{World}
+use Rattle.apron_run.specs.declared.end.End.{End}
+use Rattle.apron_run.specs.declared.end.End.TheVariants.{Attended, Unusable as Unworkable}
+use Rattle.apron_run.specs.declared.end.ServeEnd.TheVariants as end
+use Rattle.apron_run.proofs.Kept.{unworkable_used}
+use Rattle.apron_serve.specs.Board.{AtServe, Listening, Service}
+use Rattle.apron_serve.specs.Serve.{serve_ends_before_journal}
 
--- the status of a journal that isn't worked on is none of an end before the journal
-unusable_comes : (why : Unusable) → serve_ends_before_journal (exit_code (status_of (ended.Unusable why))) ≡ false
-unusable_comes (Journal journal.DiskFault) = refl
-unusable_comes (Journal journal.NotEmpty) = refl
-unusable_comes (Journal journal.NotAJournal) = refl
-unusable_comes (Journal (journal.OtherAirport kept given)) = refl
-unusable_comes (Journal journal.OldFormat) = refl
-unusable_comes (Journal (journal.BadRecord number)) = refl
-unusable_comes (Journal journal.Memory) = refl
-unusable_comes (Entries (entries.BadEntry number)) = refl
-unusable_comes (Entries (entries.WrongEntry number)) = refl
-unusable_comes (Entries entries.Memory) = refl
+-- what is kept unless something was, if something else was whenever that was
+pub kept_also : {E : Type 0} (served counts : Bool) (old new : E) → (served ≡ true → counts ≡ true) → KeptUnless served old new → KeptUnless counts old new
+kept_also served true old new goes kept = tt
+kept_also true false old new goes kept = let no : false ≡ true = goes refl in absurd cc
+kept_also false false old new goes kept = kept
 
--- what is printed about the journal is no end before it
-pub met_comes : (met : Result ServeEnd Unusable) (before after : SinkState) (status : Status) → PrintsServeEnd met before after status → serve_ends_before_journal (exit_code status) ≡ false
-met_comes (Ok end.Done) before after status (silent, is) = ap (λ (s : Status). serve_ends_before_journal (exit_code s)) is
-met_comes (Ok end.ListenerFault) before after status tells =
-    let told_is : status ≡ ListenerFault = written_is listener_line ListenerFault before after status tells in
-    ap (λ (s : Status). serve_ends_before_journal (exit_code s)) told_is
-met_comes (Ok end.Missed) before after status tells =
-    let told_is : status ≡ Memory = written_is _ Memory before after status tells in
-    ap (λ (s : Status). serve_ends_before_journal (exit_code s)) told_is
-met_comes (Err why) before after status tells =
-    let told_is : status ≡ (status_of (ended.Unusable why)) = written_is _ (status_of (ended.Unusable why)) before after status tells in
-    ap (λ (s : Status). serve_ends_before_journal (exit_code s)) told_is ∙ unusable_comes why
+-- listeners that are kept are as they were
+pub listening_kept : {L In Out : Type 0} (state : L → ListenerState In Out) (served : Bool) (listeners listened screens shown : List L)
+    → KeptUnless served listeners listened → KeptUnless served screens shown
+    → KeptUnless {E = Listening In Out} served (record { listeners = map state listeners; screens = map state screens }) (record { listeners = map state listened; screens = map state shown })
+listening_kept state true listeners listened screens shown one other = tt
+listening_kept state false listeners listened screens shown one other = λ i. record { listeners = map state (one i); screens = map state (other i) }
 
--- what is kept, whether or not it has to be
-kept_anyway : {E : Type 0} (may : Bool) (old new : E) → new ≡ old → KeptUnless may old new
-kept_anyway true old new same = tt
-kept_anyway false old new same = same
-
--- a version that a screen missed may end what was served
-missed_served : (screens : ℕ) → 0 < screens → has_served screens (exit_code Memory) ≡ true
-missed_served screens some = grind (arith, nat_tests)
-
--- the listeners are as they were if there was no journal to work on
-pub met_kept : {E : Type 0} (screens : ℕ) (met : Result ServeEnd Unusable) (before after : SinkState) (status : Status) (old new : E)
-    → (met ≡ Ok end.Missed → 0 < screens) → PrintsServeEnd met before after status → OnErr met (new ≡ old) → KeptUnless (has_served screens (exit_code status)) old new
-met_kept screens (Ok end.Done) before after status old new shown (silent, is) kept =
-    subst (λ (s : Status). KeptUnless (has_served screens (exit_code s)) old new) (sym is) tt
-met_kept screens (Ok end.ListenerFault) before after status old new shown tells kept =
-    let told_is : status ≡ ListenerFault = written_is listener_line ListenerFault before after status tells in
-    subst (λ (s : Status). KeptUnless (has_served screens (exit_code s)) old new) (sym told_is) tt
-met_kept screens (Ok end.Missed) before after status old new shown tells kept =
-    let told_is : status ≡ Memory = written_is _ Memory before after status tells in
-    subst (λ (s : Status). KeptUnless (has_served screens (exit_code s)) old new) (sym told_is)
-    (subst (λ (b : Bool). KeptUnless b old new) (sym (missed_served screens (shown refl))) tt)
-met_kept screens (Err why) before after status old new shown tells kept = kept_anyway (has_served screens (exit_code status)) old new kept
+-- what is done at a journal ends with no number of an end before it
+pub comes : {In Out : Type 0} (service : Service In Out) (task : Task) (from to : Listening In Out) (files : AirportFiles) (before after : World) (end : End)
+    → AtServe service task from to files before after end → not (serve_ends_before_journal (exit_code (status_of end))) ≡ true
+comes service task from to files before after (Attended end.Done) at = refl
+comes service task from to files before after (Attended end.ListenerFault) at = refl
+comes service task from to files before after (Attended end.Missed) at = refl
+comes service task from to files before after (Unworkable why) at =
+    unworkable_used (λ code. not (serve_ends_before_journal code)) refl refl refl files before.disk after.disk why (let not_opened = at.uses in not_opened.cause)
+comes service task from to files before after end at = absurd at

@@ -1,9 +1,11 @@
 -- What desks and screens that are served at one journal do to it, and to their listeners.
-use Rattle.std.specs.Prelude.{◌≡◌, ◌<◌, Bool, true, false, List, [], ◌∷◌, ◌++◌, length, Result, Ok, Err}
+use Rattle.std.specs.Prelude.{◌≡◌, ◌<◌, Bool, true, false, List, [], ◌∷◌, ◌++◌, length}
+use Rattle.apron_base.specs.Listener.{ListenerState}
 use Rattle.apron_base.specs.Machine.{MachineState}
 use Rattle.apron_rules.specs.declared.parts.AirportParts.{AirportParts}
 use Rattle.desk_asks.specs.declared.asks.Entry.{Entry}
 use Rattle.history_core.specs.History.{IsSoundPlan, replay}
+use Rattle.journal_disk.specs.Disk.{DiskState}
 use Rattle.desk_workers.specs.Crew.{ServesBoard, end_of}
 use Rattle.desk_workers.specs.Watched.{FeedTexts, fed_sessions}
 use Rattle.desk_workers.specs.Work.{EndStates}
@@ -13,12 +15,13 @@ use Rattle.screen_server.specs.Shown.{ShowsFrom}
 use Rattle.screen_server.specs.declared.shown.Task.{Task}
 use Rattle.apron_check.specs.declared.files.AirportFiles.{AirportFiles}
 use Rattle.apron_run.specs.Asking.{opened_board}
-use Rattle.apron_run.specs.Journal.{KeepsHistory, NotOpened, OpensTo}
+use Rattle.apron_run.specs.Journal.{KeepsHistory, NoJournal, OpensTo}
 use Rattle.apron_run.specs.Survival.{Survives}
-use Rattle.apron_run.specs.declared.unusable.Unusable.{Unusable}
-use Rattle.apron_serve.specs.declared.board.ServeEnd.{ServeEnd}
-use Rattle.apron_serve.specs.declared.board.ServeEnd.TheVariants.{Done, ListenerFault, Missed}
-use Rattle.apron_serve.specs.World.{ServeWorld, Unserved}
+use Rattle.apron_run.specs.World.{OnDisk, World}
+use Rattle.apron_run.specs.declared.end.End.{End}
+use Rattle.apron_run.specs.declared.end.End.TheVariants as ended
+use Rattle.apron_run.specs.declared.end.ServeEnd.{ServeEnd}
+use Rattle.apron_run.specs.declared.end.ServeEnd.TheVariants.{Done, ListenerFault, Missed}
 
 -- how the ends of connections are seen, and what the reply to each feed is
 pub record Service (In Out : Type 0) : Type 0 where
@@ -31,7 +34,13 @@ served_end work.ListenerFault missed = ListenerFault
 served_end work.Done true = Missed
 served_end work.Done false = Done
 
-module _ {In Out : Type 0} (service : Service In Out) (files : AirportFiles) (task : Task) where
+-- the listeners of desks and those of screens, in order
+pub record Listening (In Out : Type 0) : Type 0 where
+  pub listeners : List (ListenerState In Out)
+  pub screens : List (ListenerState In Out)
+
+module _ {In Out : Type 0} (service : Service In Out) (task : Task)
+    (from to : Listening In Out) (files : AirportFiles) where
   -- The headline for many desks. The journal of the files opened to a legal history. Each
   -- listener's connections were served one after the other by a worker of its own, whose port had
   -- seen that history. Each request was answered as for a desk alone, at the whole history that its
@@ -47,33 +56,35 @@ module _ {In Out : Type 0} (service : Service In Out) (files : AirportFiles) (ta
   -- are screens, a writer of theirs may have missed the last version. Serving ended as the first
   -- worker in order that stopped early, those of the desks before those of the screens; if none
   -- did, by whether a version was missed.
-  pub record ServesDesks (before after : ServeWorld In Out) (end : ServeEnd) : Type 0 where
+  pub record ServesDesks (before after : DiskState) (served : ServeEnd) : Type 0 where
     pub opened : List Entry
-    pub opens : OpensTo files before.disk opened
+    pub opens : OpensTo files before opened
     pub board : MachineState Entry AirportParts
     pub desks : WorkEnd
     pub serves : ServesBoard service.states (fed_sessions service.feeds) task.connections
         (record {
-          listeners = before.listeners;
-          board = opened_board files.airport opened before.disk.faults;
+          listeners = from.listeners;
+          board = opened_board files.airport opened before.faults;
         })
-        (record { listeners = after.listeners; board = board }) desks
+        (record { listeners = to.listeners; board = board }) desks
     pub looks : WorkEnd
     pub shows : ShowsFrom service.states (record { airport = files.airport; history = opened }) task
-        before.screens
-        (record { listeners = after.screens; history = board.history; end = looks })
-    pub missed : after.missed ≡ true → 0 < length before.screens
-    pub end_is : end ≡ served_end (end_of (desks ∷ looks ∷ [])) after.missed
-    pub faults : after.disk.faults ≡ board.faults
-    pub keeps : KeepsHistory files board.history board.at_risk after.disk
-    pub survives : Survives files.digests board.history board.at_risk before.disk after.disk
+        from.screens
+        (record { listeners = to.screens; history = board.history; end = looks })
+    pub missed : Bool
+    pub some : missed ≡ true → 0 < length from.screens
+    pub end_is : served ≡ served_end (end_of (desks ∷ looks ∷ [])) missed
+    pub faults : after.faults ≡ board.faults
+    pub keeps : KeepsHistory files board.history board.at_risk after
+    pub survives : Survives files.digests board.history board.at_risk before after
     pub sound : (front back : List Entry)
         → board.history ≡ front ++ back
         → IsSoundPlan (replay files.airport front)
 
-  -- desks served at the journal of these files; or why there is none to work on, or no memory for
-  -- the turns at it, and nothing was written on the disk
-  abbrev pub MeetsDesks : ServeWorld In Out → ServeWorld In Out → Result ServeEnd Unusable → Type 0
-  MeetsDesks before after (Ok end) = ServesDesks before after end
-  MeetsDesks before after (Err why) =
-      Unserved (λ old new. NotOpened files old new why) before after
+  -- what is done at these files: desks and screens are served at their journal; or there is none to
+  -- work on, or no memory for the turns at it
+  abbrev pub AtServe : World → World → End → Type 0
+  AtServe before after (ended.Attended served) =
+      OnDisk (λ old new. ServesDesks old new served) before after
+  AtServe before after (ended.Unusable why) = NoJournal files why before after
+  AtServe before after end = ⊥

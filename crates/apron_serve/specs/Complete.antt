@@ -1,23 +1,21 @@
 -- Completeness: `serve` serves all that it is asked for, if nothing fails, or memory has run out.
 use Rattle.std.specs.Prelude.{ℕ, Option, IfSome, IsSome}
-use Rattle.apron_base.specs.Counts.{Rose}
-use Rattle.apron_run.specs.Complete.{EndsWell, OnJournal}
+use Rattle.apron_run.specs.Complete.{EndsWell, NoFileFails, OnJournal}
+use Rattle.apron_run.specs.World.{World}
+use Rattle.apron_serve.specs.Board.{Listening}
 use Rattle.apron_serve.specs.Orders.{Order, day_shown}
 use Rattle.apron_serve.specs.Serve.{SomeFailed}
-use Rattle.apron_serve.specs.World.{ServeWorld}
 
-module _ {In Out : Type 0} where
-  -- the count of faults of the shelf, of a listener or of the disk neither rose nor is at its
-  -- greatest value
-  pub record NoneFailsInServe (before after : ServeWorld In Out) : Type 0 where
-    pub shelf : ¬ (Rose before.shelf.faults after.shelf.faults)
-    pub listeners : ¬ (SomeFailed before.listeners after.listeners)
-    pub screens : ¬ (SomeFailed before.screens after.screens)
-    pub disk : ¬ (Rose before.disk.faults after.disk.faults)
+module _ {In Out : Type 0} (from to : Listening In Out) where
+  -- no file fails, and the count of faults of no listener rose or is at its greatest value
+  pub record NoneFailsInServe (before after : World) : Type 0 where
+    pub files : NoFileFails before after
+    pub listeners : ¬ (SomeFailed from.listeners to.listeners)
+    pub screens : ¬ (SomeFailed from.screens to.screens)
 
   -- an order ends well if its two files make an airport, whose plan has the day that is ordered,
   -- the disk opens as the journal of it, and nothing fails
-  abbrev pub IsServeComplete : Option Order → ServeWorld In Out → ServeWorld In Out → ℕ → Type 0
+  abbrev pub IsServeComplete : Option Order → World → World → ℕ → Type 0
   IsServeComplete asked before after code = IfSome asked (λ order.
       OnJournal before.shelf before.disk order.airport order.types
       (λ files history. IsSome (day_shown files.airport order.day))

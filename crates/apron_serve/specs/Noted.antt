@@ -1,14 +1,14 @@
 -- What the hall of the screens noted.
-use Rattle.std.specs.Prelude.{◌≡◌, ◌<◌, ℕ, Bool, false, List, length, Option, None, Some, Result, Ok, Err}
+use Rattle.std.specs.Prelude.{◌≡◌, ◌<◌, ℕ, Bool, false, List, length, Option, None, Some}
 use Rattle.desk_asks.specs.declared.asks.Entry.{Entry}
 use Rattle.history_core.specs.Opening.{next_after}
 use Rattle.shown_board.specs.Halls.{HallNoteState}
 use Rattle.screen_server.specs.declared.shown.Task.{Task}
 use Rattle.apron_check.specs.declared.files.AirportFiles.{AirportFiles}
-use Rattle.apron_run.specs.declared.unusable.Unusable.{Unusable}
-use Rattle.apron_serve.specs.declared.board.ServeEnd.{ServeEnd}
-use Rattle.apron_serve.specs.Board.{MeetsDesks, Service}
-use Rattle.apron_serve.specs.World.{ServeWorld}
+use Rattle.apron_run.specs.World.{World}
+use Rattle.apron_run.specs.declared.end.End.{End}
+use Rattle.apron_run.specs.declared.end.End.TheVariants as ended
+use Rattle.apron_serve.specs.Board.{AtServe, Listening, Service}
 
 -- what a hall with this many writers noted, which was made over a board that was opened with one
 -- history, and ended with the other
@@ -25,17 +25,17 @@ abbrev pub has_missed : Option HallNoteState → Bool
 has_missed None = false
 has_missed (Some note) = note.missed
 
-module _ {In Out : Type 0} (service : Service In Out) (files : AirportFiles) (task : Task)
-    (before after : ServeWorld In Out) where
+module _ {In Out : Type 0} (service : Service In Out) (task : Task) (from to : Listening In Out)
+    (files : AirportFiles) (before after : World) where
   -- the note is that of the hall which showed these screens, if they were served
-  abbrev pub IsNoteAt : (met : Result ServeEnd Unusable)
-      → MeetsDesks service files task before after met → Option HallNoteState → Type 0
-  IsNoteAt (Ok end) desks note =
-      IsNoteOf desks.opened desks.board.history (length before.screens) note
-  IsNoteAt (Err why) unserved note = note ≡ None
+  abbrev pub IsNoteAt : (end : End) → AtServe service task from to files before after end
+      → Option HallNoteState → Type 0
+  IsNoteAt (ended.Attended served) desks note =
+      IsNoteOf desks.uses.opened desks.uses.board.history (length from.screens) note
+      × (desks.uses.missed ≡ has_missed note)
+  IsNoteAt end unserved note = note ≡ None
 
-  -- what was met at the journal of these files, and the note of the hall
-  pub record MeetsNoted (met : Result ServeEnd Unusable)
-      (note : Option HallNoteState) : Type 0 where
-    pub meets : MeetsDesks service files task before after met
-    pub noted : IsNoteAt met meets note
+  -- what was done at these files, and the note of the hall
+  pub record MeetsNoted (end : End) (note : Option HallNoteState) : Type 0 where
+    pub meets : AtServe service task from to files before after end
+    pub noted : IsNoteAt end meets note

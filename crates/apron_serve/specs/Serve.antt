@@ -1,15 +1,23 @@
 -- What the program does with the words `serve A T N` and `serve A T N screen DAY`.
-use Rattle.std.specs.Prelude.{◌≡◌, ◌⊎◌, ◌+◌, ◌==◌, ◌&&◌, ◌||◌, nat_lt, ℕ, Bool, List, ◌∷◌, map, MatchOption, Option}
+use Rattle.std.specs.Prelude.{◌≡◌, ◌⊎◌, ◌+◌, ◌==◌, ◌&&◌, ◌||◌, nat_lt, ℕ, Bool, true, false, List, ◌∷◌, map, Option, None, Some}
 use Rattle.apron_base.specs.Counts.{Rose}
 use Rattle.apron_base.specs.Listener.{ListenerState}
+use Rattle.apron_check.specs.declared.files.AirportFiles.{AirportFiles}
+use Rattle.apron_run.specs.End.{EndsAs, EndsUntouched}
+use Rattle.apron_run.specs.Run.{KeptUnless}
 use Rattle.apron_run.specs.Statuses.{exit_code}
+use Rattle.apron_run.specs.TwoFiles.{WithFiles}
+use Rattle.apron_run.specs.World.{World}
+use Rattle.apron_run.specs.declared.end.End.{End}
 use Rattle.apron_run.specs.declared.end.End.TheVariants as ended
-use Rattle.apron_run.specs.declared.status.Status.{Status}
 use Rattle.apron_run.specs.declared.status.Status.TheVariants.{Done, Usage, FileFault, ShelfFault, ListenerFault, Memory}
-use Rattle.apron_serve.specs.Board.{Service}
-use Rattle.apron_serve.specs.Files.{Refuses, ServesFiles}
-use Rattle.apron_serve.specs.Orders.{Order}
-use Rattle.apron_serve.specs.World.{ServeWorld}
+use Rattle.apron_serve.specs.Board.{AtServe, Listening, Service}
+use Rattle.apron_serve.specs.Orders.{Order, day_shown}
+
+-- desks and screens were served
+abbrev pub was_served : End → Bool
+was_served (ended.Attended served) = true
+was_served end = false
 
 -- `serve` with this many screens may end with this number after desks were served
 abbrev pub has_served : ℕ → ℕ → Bool
@@ -36,13 +44,26 @@ module _ {In Out : Type 0} where
       ⊎ SomeFailed befores afters
   SomeFailed befores afters = ⊥
 
-module _ {In Out : Type 0} (service : Service In Out) where
-  -- What `serve` does for an order, what a crash meanwhile or after it may leave, and the status of
-  -- its number. If there is no order the line `usage` is written, and nothing else is touched.
-  pub record ServesAs (order : Option Order) (before after : ServeWorld In Out)
-      (code : ℕ) : Type 0 where
-    pub status : Status
-    pub code_is : code ≡ exit_code status
-    pub does : MatchOption order
-        ((after.shelf ≡ before.shelf) × Refuses ended.Unasked before after status)
-        (λ order. ServesFiles service order before after status)
+module _ {In Out : Type 0} (service : Service In Out) (from to : Listening In Out) where
+  -- what is done at these files, by the day that screens are to show: nothing if the plan lacks it
+  abbrev pub ServesDay : ℕ → AirportFiles → Option ℕ → World → World → End → Type 0
+  ServesDay connections files (Some day) =
+      AtServe service (record { connections = connections; day = day }) from to files
+  ServesDay connections files None = EndsUntouched ended.Unasked
+
+  -- what is done for an order, if there is one
+  abbrev pub ServesOrder : Option Order → World → World → End → Type 0
+  ServesOrder (Some order) =
+      WithFiles (λ files. ServesDay order.connections files (day_shown files.airport order.day))
+      order.airport order.types
+  ServesOrder None = EndsUntouched ended.Unasked
+
+  -- and the listeners are as they were, unless they were served
+  abbrev pub DoesServe : Option Order → World → World → End → Type 0
+  DoesServe asked before after end = ServesOrder asked before after end
+      × KeptUnless (was_served end) from to
+
+  -- What `serve` does for an order, what a crash meanwhile or after it may leave, the line at its
+  -- end, and the status of its number. If there is no order it does nothing.
+  abbrev pub ServesAs : Option Order → World → World → ℕ → Type 0
+  ServesAs asked = EndsAs (DoesServe asked)

@@ -1,18 +1,19 @@
 // Desks and screens at the board of an airport over its journal on a disk.
-ghost use Rattle.std.specs.Prelude.{◌≡◌, ◌<◌, ◌≤◌, [], ◌∷◌, OnErr, false, length, map};
-ghost use Rattle.apron_base.specs.Ends.{SinkState};
+ghost use Rattle.std.specs.Prelude.{◌≡◌, ◌<◌, ◌≤◌, [], ◌∷◌, length, map};
+ghost use Rattle.apron_base.specs.Ends.{SinkState, SourceState};
 ghost use Rattle.apron_base.specs.Shelf.{ShelfState};
 ghost use Rattle.desk_workers.specs.Crew.{end_of};
 ghost use Rattle.desk_workers.specs.Watched.{feed_texts};
-ghost use Rattle.apron_run.specs.World.{Unwritten};
+ghost use Rattle.apron_run.specs.Run.{KeptUnless};
+ghost use Rattle.apron_run.specs.World.{Unwritten, world_at};
 ghost use Rattle.apron_serve.specs.Board.{served_end};
 ghost use Rattle.apron_serve.specs.Noted.{MeetsNoted, has_missed};
 ghost use Rattle.apron_serve.specs.Orders.{most_listeners};
-ghost use Rattle.apron_serve.specs.World.{serve_world_at};
+ghost use Rattle.apron_serve.specs.Serve.{was_served};
 
 use apron_base::Memory;
 use apron_check::AirportFiles;
-use apron_run::{OfFiles, Unusable, close_board, open_watched};
+use apron_run::{End, OfFiles, ServeEnd, Unusable, close_board, open_watched};
 use desk_workers::{WorkEnd, first_end};
 use history_core::OpenFault;
 use journal_disk::Disk;
@@ -23,22 +24,11 @@ use std::sync::Wait;
 use std::thread::Threads;
 use watch_list::{NoteTest, Stated, Watches};
 
-/// How desks and screens were served.
-#[derive(Clone, Copy, Debug, PartialEq, Eq)]
-pub(crate) enum ServeEnd {
-    /// Each listener has had all its connections.
-    Done,
-    /// A listener failed.
-    ListenerFault,
-    /// All connections were served, but a screen's writer had no memory for the last version.
-    Missed,
-}
-
 /// Opens the journal of these files on the disk, and serves the connections of the listeners of
 /// desks at its board, and those of the listeners of screens beside them. It gives the disk back,
-/// and what the hall of the screens noted, if there are any. `Err` says why there is no journal to
-/// work on, or that there is no memory for the screens or the turns at it; then no listener was
-/// called, and nothing was written on the disk.
+/// and what the hall of the screens noted, if there are any. If there is no journal to work on, or
+/// no memory for the screens or the turns at it, no listener is called, and nothing is written on
+/// the disk.
 pub(crate) fn serve_desks<
     'a,
     N: OfFiles + Send,
@@ -56,33 +46,37 @@ pub(crate) fn serve_desks<
     listeners: &mut [L],
     screens: &mut [L],
     disk: D,
-) -> (Result<ServeEnd, Unusable>, D, Option<HallNote>)
+) -> (End, D, Option<HallNote>)
     requires digests { files.now.digests ≡ N.digests }
     requires begun { Unwritten N.begun (D.state disk) }
     requires few { length listeners.old ≤ most_listeners }
     requires day { 0 < length screens.old → (1 ≤ task.day) × (task.day ≤ files.now.airport.days) }
-    ensures meets { (shelf read : ShelfState) (sink wrote : SinkState) → MeetsNoted
-        (record { states = L.states; feeds = feed_texts R.tells watches.now }) files.now task
-        (serve_world_at shelf (map L.state listeners.old) (map L.state screens.old)
-        sink N.begun false)
-        (serve_world_at read (map L.state listeners.new) (map L.state screens.new)
-        wrote (D.state result.1) (has_missed result.2)) result.0 result.2 }
-    ensures unserved { OnErr result.0 (listeners.new ≡ listeners.old) }
-    ensures unshown { OnErr result.0 (screens.new ≡ screens.old) }
+    ensures meets { (shelf : ShelfState) (source : SourceState) (sink : SinkState) → MeetsNoted
+        (record { states = L.states; feeds = feed_texts R.tells watches.now }) task
+        (record { listeners = map L.state listeners.old; screens = map L.state screens.old })
+        (record { listeners = map L.state listeners.new; screens = map L.state screens.new })
+        files.now (world_at shelf source sink N.begun)
+        (world_at shelf source sink (D.state result.1)) result.0 result.2 }
+    ensures unserved { KeptUnless (was_served result.0) listeners.old listeners.new }
+    ensures unshown { KeptUnless (was_served result.0) screens.old screens.new }
 {
     let board = match open_watched::<N, D, R, T>(alloc, files, watches, disk) {
         Ok(board) => board,
-        Err((why, disk)) => return (Err(why), disk, None),
+        Err((why, disk)) => return (End::Unusable(why), disk, None),
     };
     let (served, hall) = serve_watched(rt, alloc, &files.airport, board, listeners, screens, task);
     match served {
         Ok(ends) => {
             let note = hall.note();
             let end = served_end(&ends, &note);
-            (Ok(end), close_board(hall.into_board().into_board()), note)
+            (
+                End::Attended(end),
+                close_board(hall.into_board().into_board()),
+                note,
+            )
         }
         Err(Memory) => (
-            Err(Unusable::Entries(OpenFault::Memory)),
+            End::Unusable(Unusable::Entries(OpenFault::Memory)),
             close_board(hall.into_board().into_board()),
             None,
         ),
@@ -102,7 +96,7 @@ fn served_end(ends: &ShownEnd, note: &Option<HallNote>) -> ServeEnd
     }
 }
 
-pub(crate) fn has_missed(note: &Option<HallNote>) -> bool
+fn has_missed(note: &Option<HallNote>) -> bool
     ensures is { result ≡ has_missed note.now }
 {
     match note {

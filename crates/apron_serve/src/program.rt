@@ -1,21 +1,24 @@
 // The calls of the words `serve A T N` and `serve A T N screen DAY`.
-ghost use Rattle.std.specs.Prelude.{◌≡◌, ◌↔◌, ◌⊎◌, ◌<◌, ◌≤◌, IfSome, IsSome, Bool, true, false, None, Ok, Some, is_some, length, map, not};
+ghost use Rattle.std.specs.Prelude.{◌≡◌, ◌↔◌, ◌⊎◌, ◌<◌, ◌≤◌, IfSome, IsSome, [], true, None, Some, is_some, length, map, not};
+ghost use Rattle.std.specs.Option.{option_copied, option_map};
+ghost use Rattle.apron_base.specs.Ends.{SinkState, SourceState};
 ghost use Rattle.apron_base.specs.Shelf.{ShelfState};
 ghost use Rattle.desk_workers.specs.Watched.{feed_texts, no_feeds};
+ghost use Rattle.apron_run.specs.End.{status_of};
 ghost use Rattle.apron_run.specs.Run.{KeptUnless};
 ghost use Rattle.apron_run.specs.Statuses.{exit_code};
+ghost use Rattle.apron_run.specs.World.{world_at};
+ghost use Rattle.apron_serve.specs.Board.{AtServe};
 ghost use Rattle.apron_serve.specs.Complete.{IsServeComplete};
-ghost use Rattle.apron_serve.specs.Files.{PrintsServeEnd, ServesFiles, ServesJournal, listener_line};
 ghost use Rattle.apron_serve.specs.Orders.{Order as Ordered, may_have, most_listeners, order_of};
 ghost use Rattle.apron_serve.specs.OrdersShown.{order_shown};
-ghost use Rattle.apron_serve.specs.Serve.{HaveFinished, ServesAs, SomeFailed, has_served, serve_ends_before_journal};
-ghost use Rattle.apron_serve.specs.World.{desks_world_at, serve_world_at};
+ghost use Rattle.apron_serve.specs.Serve.{DoesServe, HaveFinished, ServesAs, SomeFailed, has_served, serve_ends_before_journal, was_served};
 
-use crate::board::{ServeEnd, has_missed, serve_desks};
+use crate::board::serve_desks;
 use crate::words::{Order, order_of};
 use apron_base::{Shelf, Sink, Word};
-use apron_check::{AirportFiles, FilesFault, airport_of};
-use apron_run::{End, Status, Unusable, tell_end};
+use apron_check::{AirportFiles, airport_of};
+use apron_run::{End, Status, tell_end};
 use journal_disk::Disk;
 use screen_server::{Task, Wall};
 use std::alloc::Global;
@@ -53,12 +56,13 @@ pub fn serve<F: Shelf, L: Wall + Send, W: Sink, D: Disk + Send, Rt: Wait + Threa
     sink: &mut W,
     disk: D,
 ) -> (u8, D)
-    ensures headline { ServesAs (record { states = L.states; feeds = no_feeds })
+    ensures headline { (source : SourceState) → ServesAs
+        (record { states = L.states; feeds = no_feeds })
+        (record { listeners = map L.state listeners.old; screens = [] })
+        (record { listeners = map L.state listeners.new; screens = [] })
         (order_of words.now (length listeners.old) 0)
-        (desks_world_at (F.state shelf.old) (map L.state listeners.old)
-        (W.state sink.old) (D.state disk))
-        (desks_world_at (F.state shelf.new) (map L.state listeners.new)
-        (W.state sink.new) (D.state result.1)) result.0 }
+        (world_at (F.state shelf.old) source (W.state sink.old) (D.state disk))
+        (world_at (F.state shelf.new) source (W.state sink.new) (D.state result.1)) result.0 }
     ensures done { (order : Ordered)
         → order_of words.now (length listeners.old) 0 ≡ Some order
         → (result.0 ≡ exit_code Status.Done
@@ -68,11 +72,12 @@ pub fn serve<F: Shelf, L: Wall + Send, W: Sink, D: Disk + Send, Rt: Wait + Threa
         → SomeFailed (map L.state listeners.old) (map L.state listeners.new) }
     ensures usage { result.0 ≡ exit_code Status.Usage
         ↔ order_of words.now (length listeners.old) 0 ≡ None }
-    ensures complete { IsServeComplete (order_of words.now (length listeners.old) 0)
-        (desks_world_at (F.state shelf.old) (map L.state listeners.old)
-        (W.state sink.old) (D.state disk))
-        (desks_world_at (F.state shelf.new) (map L.state listeners.new)
-        (W.state sink.new) (D.state result.1)) result.0 }
+    ensures complete { (source : SourceState) → IsServeComplete
+        (record { listeners = map L.state listeners.old; screens = [] })
+        (record { listeners = map L.state listeners.new; screens = [] })
+        (order_of words.now (length listeners.old) 0)
+        (world_at (F.state shelf.old) source (W.state sink.old) (D.state disk))
+        (world_at (F.state shelf.new) source (W.state sink.new) (D.state result.1)) result.0 }
     ensures shelf_kept { KeptUnless (is_some (order_of words.now (length listeners.old) 0))
         shelf.old shelf.new }
     ensures listeners_kept { KeptUnless (has_served 0 result.0) listeners.old listeners.new }
@@ -101,13 +106,13 @@ pub fn serve_with<
     sink: &mut W,
     disk: D,
 ) -> (u8, D)
-    ensures headline { ServesAs
+    ensures headline { (source : SourceState) → ServesAs
         (record { states = L.states; feeds = feed_texts R.tells watches.now })
+        (record { listeners = map L.state listeners.old; screens = [] })
+        (record { listeners = map L.state listeners.new; screens = [] })
         (order_of words.now (length listeners.old) 0)
-        (desks_world_at (F.state shelf.old) (map L.state listeners.old)
-        (W.state sink.old) (D.state disk))
-        (desks_world_at (F.state shelf.new) (map L.state listeners.new)
-        (W.state sink.new) (D.state result.1)) result.0 }
+        (world_at (F.state shelf.old) source (W.state sink.old) (D.state disk))
+        (world_at (F.state shelf.new) source (W.state sink.new) (D.state result.1)) result.0 }
     ensures done { (order : Ordered)
         → order_of words.now (length listeners.old) 0 ≡ Some order
         → (result.0 ≡ exit_code Status.Done
@@ -117,21 +122,19 @@ pub fn serve_with<
         → SomeFailed (map L.state listeners.old) (map L.state listeners.new) }
     ensures usage { result.0 ≡ exit_code Status.Usage
         ↔ order_of words.now (length listeners.old) 0 ≡ None }
-    ensures complete { IsServeComplete (order_of words.now (length listeners.old) 0)
-        (desks_world_at (F.state shelf.old) (map L.state listeners.old)
-        (W.state sink.old) (D.state disk))
-        (desks_world_at (F.state shelf.new) (map L.state listeners.new)
-        (W.state sink.new) (D.state result.1)) result.0 }
+    ensures complete { (source : SourceState) → IsServeComplete
+        (record { listeners = map L.state listeners.old; screens = [] })
+        (record { listeners = map L.state listeners.new; screens = [] })
+        (order_of words.now (length listeners.old) 0)
+        (world_at (F.state shelf.old) source (W.state sink.old) (D.state disk))
+        (world_at (F.state shelf.new) source (W.state sink.new) (D.state result.1)) result.0 }
     ensures shelf_kept { KeptUnless (is_some (order_of words.now (length listeners.old) 0))
         shelf.old shelf.new }
     ensures listeners_kept { KeptUnless (has_served 0 result.0) listeners.old listeners.new }
     ensures disk_kept { KeptUnless (not (serve_ends_before_journal result.0)) disk result.1 }
 {
     let (none, desks) = listeners.split_at_mut(0);
-    let (code, disk, _missed) = serve_noted(
-        rt, alloc, words, watches, shelf, desks, none, sink, disk,
-    );
-    (code, disk)
+    serve_all(rt, alloc, words, watches, shelf, desks, none, sink, disk)
 }
 
 /// The same with screens beside the desks.
@@ -167,13 +170,13 @@ pub fn serve_all<
     sink: &mut W,
     disk: D,
 ) -> (u8, D)
-    ensures headline { (missed : Bool) × ServesAs
+    ensures headline { (source : SourceState) → ServesAs
         (record { states = L.states; feeds = feed_texts R.tells watches.now })
+        (record { listeners = map L.state listeners.old; screens = map L.state screens.old })
+        (record { listeners = map L.state listeners.new; screens = map L.state screens.new })
         (order_of words.now (length listeners.old) (length screens.old))
-        (serve_world_at (F.state shelf.old) (map L.state listeners.old) (map L.state screens.old)
-        (W.state sink.old) (D.state disk) false)
-        (serve_world_at (F.state shelf.new) (map L.state listeners.new) (map L.state screens.new)
-        (W.state sink.new) (D.state result.1) missed) result.0 }
+        (world_at (F.state shelf.old) source (W.state sink.old) (D.state disk))
+        (world_at (F.state shelf.new) source (W.state sink.new) (D.state result.1)) result.0 }
     ensures done { (order : Ordered)
         → order_of words.now (length listeners.old) (length screens.old) ≡ Some order
         → result.0 ≡ exit_code Status.Done
@@ -193,12 +196,12 @@ pub fn serve_all<
     ensures usage_alone { result.0 ≡ exit_code Status.Usage
         → IfSome (order_of words.now (length listeners.old) (length screens.old))
         (λ order. IsSome order.day) }
-    ensures complete { (missed : Bool) × IsServeComplete
+    ensures complete { (source : SourceState) → IsServeComplete
+        (record { listeners = map L.state listeners.old; screens = map L.state screens.old })
+        (record { listeners = map L.state listeners.new; screens = map L.state screens.new })
         (order_of words.now (length listeners.old) (length screens.old))
-        (serve_world_at (F.state shelf.old) (map L.state listeners.old) (map L.state screens.old)
-        (W.state sink.old) (D.state disk) false)
-        (serve_world_at (F.state shelf.new) (map L.state listeners.new) (map L.state screens.new)
-        (W.state sink.new) (D.state result.1) missed) result.0 }
+        (world_at (F.state shelf.old) source (W.state sink.old) (D.state disk))
+        (world_at (F.state shelf.new) source (W.state sink.new) (D.state result.1)) result.0 }
     ensures shelf_kept { KeptUnless
         (is_some (order_of words.now (length listeners.old) (length screens.old))) shelf.old
         shelf.new }
@@ -208,17 +211,16 @@ pub fn serve_all<
         screens.old screens.new }
     ensures disk_kept { KeptUnless (not (serve_ends_before_journal result.0)) disk result.1 }
 {
-    let (code, disk, _missed) = serve_noted(
-        rt, alloc, words, watches, shelf, listeners, screens, sink, disk,
-    );
-    (code, disk)
+    let order = order_of(words, listeners.len(), screens.len());
+    let (end, disk) = serve_order(rt, alloc, order, watches, shelf, listeners, screens, disk);
+    (tell_end(sink, &end).code(), disk)
 }
 
-// The same, and whether a screen's writer missed the last version.
-fn serve_noted<
+// Serves what is ordered, if anything is, at the journal of its files, if their plan has the day
+// that is ordered.
+fn serve_order<
     F: Shelf,
     L: Wall + Send,
-    W: Sink,
     D: Disk + Send,
     R: Stated + Sync,
     T: NoteTest + Sync,
@@ -226,106 +228,37 @@ fn serve_noted<
 >(
     rt: &Rt,
     alloc: Global,
-    words: &[Word],
+    order: Option<Order<'_>>,
     watches: &Watches<R, T>,
     shelf: &mut F,
     listeners: &mut [L],
     screens: &mut [L],
-    sink: &mut W,
     disk: D,
-) -> (u8, D, bool)
-    ensures headline { ServesAs
+) -> (End, D)
+    requires few { IfSome order (λ _. length listeners.old ≤ most_listeners) }
+    requires screens { IfSome order
+        (λ order. may_have (length screens.old) (option_copied order.day) ≡ true) }
+    ensures does { (source : SourceState) (sink : SinkState) → DoesServe
         (record { states = L.states; feeds = feed_texts R.tells watches.now })
-        (order_of words.now (length listeners.old) (length screens.old))
-        (serve_world_at (F.state shelf.old) (map L.state listeners.old) (map L.state screens.old)
-        (W.state sink.old) (D.state disk) false)
-        (serve_world_at (F.state shelf.new) (map L.state listeners.new) (map L.state screens.new)
-        (W.state sink.new) (D.state result.1) result.2) result.0 }
-    ensures done { (order : Ordered)
-        → order_of words.now (length listeners.old) (length screens.old) ≡ Some order
-        → result.0 ≡ exit_code Status.Done
-        → HaveFinished order.connections (map L.state listeners.old) (map L.state listeners.new)
-        × HaveFinished order.connections (map L.state screens.old) (map L.state screens.new) }
-    ensures finished { (order : Ordered)
-        → order_of words.now (length listeners.old) (length screens.old) ≡ Some order
-        → HaveFinished order.connections (map L.state listeners.old) (map L.state listeners.new)
-        → HaveFinished order.connections (map L.state screens.old) (map L.state screens.new)
-        → (result.0 ≡ exit_code Status.Done)
-        ⊎ ((result.0 ≡ exit_code Status.Memory) × (0 < length screens.old)) }
-    ensures failed { result.0 ≡ exit_code Status.ListenerFault
-        → SomeFailed (map L.state listeners.old) (map L.state listeners.new)
-        ⊎ SomeFailed (map L.state screens.old) (map L.state screens.new) }
-    ensures usage { order_of words.now (length listeners.old) (length screens.old) ≡ None
-        → result.0 ≡ exit_code Status.Usage }
-    ensures usage_alone { result.0 ≡ exit_code Status.Usage
-        → IfSome (order_of words.now (length listeners.old) (length screens.old))
-        (λ order. IsSome order.day) }
-    ensures complete { IsServeComplete
-        (order_of words.now (length listeners.old) (length screens.old))
-        (serve_world_at (F.state shelf.old) (map L.state listeners.old) (map L.state screens.old)
-        (W.state sink.old) (D.state disk) false)
-        (serve_world_at (F.state shelf.new) (map L.state listeners.new) (map L.state screens.new)
-        (W.state sink.new) (D.state result.1) result.2) result.0 }
-    ensures shelf_kept { KeptUnless
-        (is_some (order_of words.now (length listeners.old) (length screens.old))) shelf.old
-        shelf.new }
-    ensures listeners_kept { KeptUnless (has_served (length screens.old) result.0)
-        listeners.old listeners.new }
-    ensures screens_kept { KeptUnless (has_served (length screens.old) result.0)
-        screens.old screens.new }
-    ensures disk_kept { KeptUnless (not (serve_ends_before_journal result.0)) disk result.1 }
+        (record { listeners = map L.state listeners.old; screens = map L.state screens.old })
+        (record { listeners = map L.state listeners.new; screens = map L.state screens.new })
+        (option_map order_shown order.entry)
+        (world_at (F.state shelf.old) source sink (D.state disk))
+        (world_at (F.state shelf.new) source sink (D.state result.1)) result.0 }
+    ensures shelf_kept { KeptUnless (is_some (option_map order_shown order.entry))
+        shelf.old shelf.new }
+    ensures listeners_kept { KeptUnless (was_served result.0) listeners.old listeners.new }
+    ensures screens_kept { KeptUnless (was_served result.0) screens.old screens.new }
+    ensures disk_kept { KeptUnless
+        (not (serve_ends_before_journal (exit_code (status_of result.0)))) disk result.1 }
 {
-    match order_of(words, listeners.len(), screens.len()) {
-        Some(order) => {
-            let (status, disk, missed) = serve_files(
-                rt, alloc, &order, watches, shelf, listeners, screens, sink, disk,
-            );
-            (status.code(), disk, missed)
-        }
-        None => (tell_end(sink, &End::Unasked).code(), disk, false),
-    }
-}
-
-// Serves what is ordered at the journal of its files, if their plan has the day that is ordered; or
-// prints why not.
-fn serve_files<
-    F: Shelf,
-    L: Wall + Send,
-    W: Sink,
-    D: Disk + Send,
-    R: Stated + Sync,
-    T: NoteTest + Sync,
-    Rt: Wait + Threads + Sync,
->(
-    rt: &Rt,
-    alloc: Global,
-    order: &Order,
-    watches: &Watches<R, T>,
-    shelf: &mut F,
-    listeners: &mut [L],
-    screens: &mut [L],
-    sink: &mut W,
-    disk: D,
-) -> (Status, D, bool)
-    requires few { length listeners.old ≤ most_listeners }
-    requires screens { may_have (length screens.old) (order_shown order.now).day ≡ true }
-    ensures serves { ServesFiles
-        (record { states = L.states; feeds = feed_texts R.tells watches.now })
-        (order_shown order.now)
-        (serve_world_at (F.state shelf.old) (map L.state listeners.old) (map L.state screens.old)
-        (W.state sink.old) (D.state disk) false)
-        (serve_world_at (F.state shelf.new) (map L.state listeners.new) (map L.state screens.new)
-        (W.state sink.new) (D.state result.1) result.2) result.0 }
-    ensures listeners_kept { KeptUnless (has_served (length screens.old) (exit_code result.0))
-        listeners.old listeners.new }
-    ensures screens_kept { KeptUnless (has_served (length screens.old) (exit_code result.0))
-        screens.old screens.new }
-    ensures disk_kept { KeptUnless (not (serve_ends_before_journal (exit_code result.0)))
-        disk result.1 }
-{
+    let order = match order {
+        Some(order) => order,
+        None => return (End::Unasked, disk),
+    };
     let files = match airport_of(alloc, order.airport.text(), order.types.text(), shelf) {
         Ok(files) => files,
-        Err(fault) => return (tell_end(sink, &End::Faulty(fault)), disk, false),
+        Err(fault) => return (End::Faulty(fault), disk),
     };
     match order.shown_day(files.airport.parts().days) {
         Some(day) => {
@@ -333,19 +266,15 @@ fn serve_files<
                 connections: order.connections,
                 day,
             };
-            serve_journal(
-                rt, alloc, &files, task, watches, listeners, screens, sink, disk,
-            )
+            serve_journal(rt, alloc, &files, task, watches, listeners, screens, disk)
         }
-        None => (tell_end(sink, &End::Unasked), disk, false),
+        None => (End::Unasked, disk),
     }
 }
 
-// Serves desks and screens at the journal of these files, and prints the line that tells why they
-// were not all served.
+// Serves desks and screens at the journal of these files.
 fn serve_journal<
     L: Wall + Send,
-    W: Sink,
     D: Disk + Send,
     R: Stated + Sync,
     T: NoteTest + Sync,
@@ -358,53 +287,21 @@ fn serve_journal<
     watches: &Watches<R, T>,
     listeners: &mut [L],
     screens: &mut [L],
-    sink: &mut W,
     disk: D,
-) -> (Status, D, bool)
+) -> (End, D)
     requires few { length listeners.old ≤ most_listeners }
     requires day { 0 < length screens.old → (1 ≤ task.day) × (task.day ≤ files.now.airport.days) }
-    ensures serves { (shelf read : ShelfState) → ServesJournal
-        (record { states = L.states; feeds = feed_texts R.tells watches.now }) files.now task
-        (serve_world_at shelf (map L.state listeners.old) (map L.state screens.old)
-        (W.state sink.old) (D.state disk) false)
-        (serve_world_at read (map L.state listeners.new) (map L.state screens.new)
-        (W.state sink.new) (D.state result.1) result.2) result.0 }
-    ensures listeners_kept { KeptUnless (has_served (length screens.old) (exit_code result.0))
-        listeners.old listeners.new }
-    ensures screens_kept { KeptUnless (has_served (length screens.old) (exit_code result.0))
-        screens.old screens.new }
-    ensures comes { serve_ends_before_journal (exit_code result.0) ≡ false }
+    ensures serves { (shelf : ShelfState) (source : SourceState) (sink : SinkState) → AtServe
+        (record { states = L.states; feeds = feed_texts R.tells watches.now }) task
+        (record { listeners = map L.state listeners.old; screens = map L.state screens.old })
+        (record { listeners = map L.state listeners.new; screens = map L.state screens.new })
+        files.now (world_at shelf source sink (D.state disk))
+        (world_at shelf source sink (D.state result.1)) result.0 }
+    ensures listeners_kept { KeptUnless (was_served result.0) listeners.old listeners.new }
+    ensures screens_kept { KeptUnless (was_served result.0) screens.old screens.new }
 {
-    let (met, disk, note) = serve_desks::<Brand, L, D, R, T, Rt>(
+    let (end, disk, _note) = serve_desks::<Brand, L, D, R, T, Rt>(
         rt, alloc, files, task, watches, listeners, screens, disk,
     );
-    (tell_met(sink, met), disk, has_missed(&note))
-}
-
-// Prints the line about it, if there is one, and gives its status, which stays even if the sink
-// fails at the line.
-fn tell_met<W: Sink>(sink: &mut W, met: Result<ServeEnd, Unusable>) -> Status
-    ensures tells { PrintsServeEnd met (W.state sink.old) (W.state sink.new) result }
-{
-    match met {
-        Ok(ServeEnd::Done) => Status::Done,
-        Ok(ServeEnd::ListenerFault) => print_listener_fault(sink),
-        Ok(ServeEnd::Missed) => tell_end(sink, &End::Faulty(FilesFault::Memory)),
-        Err(why) => tell_end(sink, &End::Unusable(why)),
-    }
-}
-
-fn print_listener_fault<W: Sink>(sink: &mut W) -> Status
-    ensures tells { PrintsServeEnd (Ok ServeEnd.ListenerFault) (W.state sink.old)
-        (W.state sink.new) result }
-{
-    let _ = sink.put(listener_line());
-    Status::ListenerFault
-}
-
-// What is printed if a listener failed.
-fn listener_line() -> &'static [u8]
-    ensures text { result.now ≡ listener_line }
-{
-    b"listener fault\n"
+    (end, disk)
 }

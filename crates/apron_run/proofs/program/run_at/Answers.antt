@@ -51,7 +51,7 @@ returns-in-Some-clause-does g c =
 
 pub returns-in-Some-clause-disk_kept : goal.returns-in-Some-clause-disk_kept
 returns-in-Some-clause-disk_kept g c = rw c.in-Chart.is (λ airport types.
-    not_both _ (plan_used (uses_disk (chart airport types c.in-Chart.day.now)) refl refl refl refl c.args.files (IsChart c.in-Some.day) _ _ _
+    not_both _ (plan_used (uses_disk (chart airport types c.in-Chart.day.now)) refl refl refl c.args.files refl (IsChart c.in-Some.day) _ _ _
     (c.text_of_journal.ensures.does (g.F.Shelf.state c.args.shelf.now) (g.S.Source.state c.args.source.now) (g.W.Sink.state c.args.sink.now))))
 
 pub returns-in-Chart-clause-does : goal.returns-in-Chart-clause-does
@@ -80,7 +80,7 @@ returns-in-Export-clause-does g c = rw c.in-Export.is
     (λ before airport types finds. record { found = Ok c.args.files; shelf = _; finds = finds; at = c.text_of_journal-in-Export.ensures.does _ _ _ })
 
 pub returns-in-Export-clause-disk_kept : goal.returns-in-Export-clause-disk_kept
-returns-in-Export-clause-disk_kept g c = rw c.in-Export.is (λ airport types. not_both _ (plan_used (uses_disk (export airport types)) refl refl refl refl c.args.files IsSeason _ _ _
+returns-in-Export-clause-disk_kept g c = rw c.in-Export.is (λ airport types. not_both _ (plan_used (uses_disk (export airport types)) refl refl refl c.args.files refl IsSeason _ _ _
     (c.text_of_journal-in-Export.ensures.does (g.F.Shelf.state c.args.shelf.now) (g.S.Source.state c.args.source.now) (g.W.Sink.state c.args.sink.now))))
 
 pub returns-in-Propose-clause-does : goal.returns-in-Propose-clause-does
@@ -91,7 +91,7 @@ pub returns-in-Propose-clause-disk_kept : goal.returns-in-Propose-clause-disk_ke
 returns-in-Propose-clause-disk_kept g c =
     let desk = c.in-Propose.desk in
     let draft = c.in-Propose.draft in
-    rw c.in-Propose.is (λ airport types. not_both _ (plan_used (uses_disk (propose airport types desk draft)) refl refl refl refl c.args.files (IsProposed desk draft) _ _ _
+    rw c.in-Propose.is (λ airport types. not_both _ (plan_used (uses_disk (propose airport types desk draft)) refl refl refl c.args.files refl (IsProposed desk draft) _ _ _
     (c.text_of_journal-in-Propose.ensures.does (g.F.Shelf.state c.args.shelf.now) (g.S.Source.state c.args.source.now) (g.W.Sink.state c.args.sink.now))))
 
 pub returns-clause-does : goal.returns-clause-does

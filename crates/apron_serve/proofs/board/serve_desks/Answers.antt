@@ -1,5 +1,5 @@
 use denote.Param.Send.{param_send}
-use Rattle.std.proofs.Common.{◌≡◌, ◌∙◌, ℕ, List, IfOk, false, ap, length, map, refl, subst, sym}
+use Rattle.std.proofs.Common.{◌≡◌, ◌∙◌, ℕ, List, IfOk, ap, length, map, refl, subst, sym}
 use Rattle.std.proofs.lemmas.List.{length-map}
 use Rattle.history_core.specs.Board.{machine_state}
 use Rattle.watch_list.specs.declared.watch.Watched.{Watched}
@@ -9,10 +9,9 @@ use Rattle.journal_disk.specs.Disk.{Stays}
 use Rattle.apron_run.specs.Journal.{KeepsHistory}
 use Rattle.apron_run.specs.Opened.{journal_tells}
 use Rattle.apron_run.specs.Survival.{Survives}
+use Rattle.apron_run.specs.World.{world_at}
 use Rattle.apron_run.proofs.Fronts.{stays_both}
 use Rattle.apron_run.proofs.Serving.{opened_from, unopened_from}
-use Rattle.apron_serve.specs.Noted.{has_missed}
-use Rattle.apron_serve.specs.World.{serve_world_at}
 use Rattle.apron_serve.proofs.Crosses.{files_send}
 use Rattle.apron_serve.proofs.Desks.{desks_serve, of_err, of_ok, opened_safe, turns_want_memory}
 use Rattle.apron_serve.proofs.board.serve_desks.Goals as goal
@@ -26,7 +25,7 @@ pub serve_watched-served-requires-clause-at_risk : goal.serve_watched-served-req
 serve_watched-served-requires-clause-at_risk g c κs within = opened_safe (journal_tells g.D.Disk.state) c.args.files.now (g.D.Disk.state c.args.disk) c.in-Ok.board.board c.in-Ok.ensures.opened
 
 pub returns-in-Ok-served-clause-meets : goal.returns-in-Ok-served-clause-meets
-returns-in-Ok-served-clause-meets g c = λ shelf read sink wrote.
+returns-in-Ok-served-clause-meets g c = λ shelf source sink.
     let tells = journal_tells g.D.Disk.state in
     let begun = g.N.OfFiles.begun in
     let closed = g.D.Disk.state c.close_board.result in
@@ -37,9 +36,10 @@ returns-in-Ok-served-clause-meets g c = λ shelf read sink wrote.
     of_ok c.serve_watched-served.result.0 c.in-Ok-served.ends c.in-Ok-served.is c.serve_watched-served.ensures.writers ∙ sym (length-map c.args.screens.now g.L.Workplace.state) in
     let next : hall.begun ≡ c.in-Ok.board.board.next =
     of_ok c.serve_watched-served.result.0 c.in-Ok-served.ends c.in-Ok-served.is c.serve_watched-served.ensures.begun ∙ c.in-Ok.ensures.next in
-    desks_serve (record { states = g.L.Workplace.states; feeds = feed_texts g.R.Stated.tells c.args.watches.now }) tells c.args.files.now c.args.task
-    (serve_world_at shelf (map g.L.Workplace.state c.args.listeners.now) (map g.L.Workplace.state c.args.screens.now) sink begun false)
-    (serve_world_at read (map g.L.Workplace.state c.serve_watched-served.new.listeners) (map g.L.Workplace.state c.serve_watched-served.new.walls) wrote closed (has_missed c.note-note.result))
+    desks_serve (record { states = g.L.Workplace.states; feeds = feed_texts g.R.Stated.tells c.args.watches.now }) tells c.args.task
+    (record { listeners = map g.L.Workplace.state c.args.listeners.now; screens = map g.L.Workplace.state c.args.screens.now })
+    (record { listeners = map g.L.Workplace.state c.serve_watched-served.new.listeners; screens = map g.L.Workplace.state c.serve_watched-served.new.walls })
+    c.args.files.now (world_at shelf source sink begun) closed
     c.in-Ok.board.board hall c.serve_watched-served.result.0 c.in-Ok-served.ends c.served_end-end.result c.note-note.result
     (opened_from tells c.args.files.now begun (g.D.Disk.state c.args.disk) c.in-Ok.board.board c.requires.begun c.in-Ok.ensures.opened) c.in-Ok-served.is
     (subst (λ (watches : List (Watched g.row.R.Denot)). IfOk c.serve_watched-served.result.0 (λ ends. ServesBoard g.L.Workplace.states
@@ -47,7 +47,7 @@ returns-in-Ok-served-clause-meets g c = λ shelf read sink wrote.
     (record { listeners = map g.L.Workplace.state c.args.listeners.now; board = machine_state tells c.in-Ok.board.board })
     (record { listeners = map g.L.Workplace.state c.serve_watched-served.new.listeners; board = machine_state tells left }) ends.desks))
     c.in-Ok.ensures.watches c.serve_watched-served.ensures.serves) c.serve_watched-served.ensures.shows
-    writers next c.note-note.ensures.value refl c.served_end-end.ensures.is
+    writers next c.note-note.ensures.value c.served_end-end.ensures.is
     (ap (λ d. (g.D.Disk.state d).faults) (c.close_board.ensures.disk ∙ ap (λ b. b.keeper.disk) same))
     (subst (λ (digests : List ℕ). KeepsHistory (record { airport = left.airport; digests = digests }) left.history left.at_risk closed)
     (sym c.requires.digests)
@@ -55,33 +55,34 @@ returns-in-Ok-served-clause-meets g c = λ shelf read sink wrote.
     (subst (λ (digests : List ℕ). Survives digests left.history left.at_risk begun closed) (sym c.requires.digests)
     (subst (λ b. Survives g.N.OfFiles.digests b.history b.at_risk begun closed) same c.close_board.ensures.survives))
 
-pub returns-in-Err-served-clause-meets : goal.returns-in-Err-served-clause-meets
-returns-in-Err-served-clause-meets g c = λ shelf read sink wrote.
+pub returns-in-Err-served : goal.returns-in-Err-served
+returns-in-Err-served g c =
     let begun = g.N.OfFiles.begun in
     let opened = g.D.Disk.state c.args.disk in
     let refused = of_err c.serve_watched-served.result.0 c.in-Err-served.field-0 c.in-Err-served.is c.serve_watched-served.ensures.refused in
     let closed = c.into_board-in-Err-served-2.ensures.value ∙ ap (λ w. w.board) c.into_board-in-Err-served.ensures.board in
     let same = c.close_board-in-Err-served.ensures.disk ∙ ap (λ b. b.keeper.disk) (closed ∙ refused.2) in
     record {
-      noted = refl;
-      meets = turns_want_memory (journal_tells g.D.Disk.state) c.args.files.now
-          (serve_world_at shelf (map g.L.Workplace.state c.args.listeners.now) (map g.L.Workplace.state c.args.screens.now) sink begun false)
-          (serve_world_at read (map g.L.Workplace.state c.serve_watched-served.new.listeners) (map g.L.Workplace.state c.serve_watched-served.new.walls) wrote (g.D.Disk.state c.close_board-in-Err-served.result) false)
-          c.in-Ok.board.board
-          (opened_from (journal_tells g.D.Disk.state) c.args.files.now begun opened c.in-Ok.board.board c.requires.begun c.in-Ok.ensures.opened)
-          (ap (map g.L.Workplace.state) refused.0) (ap (map g.L.Workplace.state) refused.1) refl
-          (stays_both begun opened (g.D.Disk.state c.close_board-in-Err-served.result) (let unwritten = c.requires.begun in unwritten.stays)
-          (subst (λ d. Stays opened (g.D.Disk.state d)) (sym same) c.in-Ok.ensures.stays))
-          (ap (λ d. (g.D.Disk.state d).faults) same);
+      meets = λ shelf source sink. record {
+        noted = refl;
+        meets = turns_want_memory (journal_tells g.D.Disk.state) c.args.files.now (world_at shelf source sink begun)
+            (g.D.Disk.state c.close_board-in-Err-served.result) c.in-Ok.board.board
+            (opened_from (journal_tells g.D.Disk.state) c.args.files.now begun opened c.in-Ok.board.board c.requires.begun c.in-Ok.ensures.opened)
+            (stays_both begun opened (g.D.Disk.state c.close_board-in-Err-served.result) (let unwritten = c.requires.begun in unwritten.stays)
+            (subst (λ d. Stays opened (g.D.Disk.state d)) (sym same) c.in-Ok.ensures.stays))
+            (ap (λ d. (g.D.Disk.state d).faults) same);
+      };
+      unserved = refused.0;
+      unshown = refused.1;
     }
 
 pub returns-in-Err-clause-meets : goal.returns-in-Err-clause-meets
-returns-in-Err-clause-meets g c = λ shelf read sink wrote. record {
+returns-in-Err-clause-meets g c = λ shelf source sink. record {
   noted = refl;
   meets = record {
-    listeners = refl;
-    screens = refl;
+    shelf = refl;
+    source = refl;
+    sink = refl;
     uses = unopened_from c.args.files.now g.N.OfFiles.begun (g.D.Disk.state c.args.disk) (g.D.Disk.state c.in-Err.disk) c.requires.begun c.in-Err.why c.in-Err.ensures.refused;
-    missed = refl;
   };
 }
