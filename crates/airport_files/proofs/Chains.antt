@@ -22,7 +22,7 @@ use Rattle.airport_files.specs.declared.read.FileFault.{FileFault}
 use Rattle.airport_files.specs.declared.read.FileFault.TheVariants.{MissingKey, WrongKind}
 use Rattle.airport_files.specs.declared.rows.AirportTable.{AirportTable}
 use Rattle.airport_files.specs.declared.layout.Layout.{Layout}
-use Rattle.airport_files.specs.Forms.{date_of, items_in, letter_of, name_of, station_of, tables_of, toml_number, toml_number_list}
+use Rattle.airport_files.specs.Forms.{array_of, date_of, items_in, letter_of, name_of, station_of, toml_number}
 use Rattle.airport_files.specs.Keys.{form_if_there, needed, optional, row_start, rows_at}
 use Rattle.airport_files.specs.Named.{airport_parts, file_fault, named}
 use Rattle.airport_files.specs.Rows.{frontage_at, pair_at, parts_of, stand_at}
@@ -103,19 +103,19 @@ numbers_from-is at no_items = refl
 numbers_from-is at (item d ds) =
     ap (λ (rest : Result (List ℕ) WalkFault). in_form at (toml_number d) >>= (λ first. rest >>= (λ more. Ok (first ∷ more)))) (numbers_from-is at ds) ∙ numbers_all at (toml_number d) (items_in toml_number ds)
 
-numbers_value-is : (at : FileKey) (d : Data) → numbers_value at d ≡ in_form at (toml_number_list d)
+numbers_value-is : (at : FileKey) (d : Data) → numbers_value at d ≡ in_form at (array_of toml_number d)
 numbers_value-is at (array ds) = numbers_from-is at ds
 numbers_value-is at _ = refl
 
-numbers_at-is : (at : FileKey) (held : Option Data) → numbers_at at held ≡ at_key toml_number_list at held
+numbers_at-is : (at : FileKey) (held : Option Data) → numbers_at at held ≡ at_key (array_of toml_number) at held
 numbers_at-is at None = refl
 numbers_at-is at (Some d) = numbers_value-is at d
 
-objects-said : (k : ℕ) (ms : Members) → told (frontage_objects k ms) ≡ needed toml_number_list (row_start (codes "frontage") k) ms (codes "objects")
+objects-said : (k : ℕ) (ms : Members) → told (frontage_objects k ms) ≡ needed (array_of toml_number) (row_start (codes "frontage") k) ms (codes "objects")
 objects-said k ms =
     let at = key.Frontage k frontage.Objects in
     ap (λ (read : Result (List ℕ) WalkFault). told read) (numbers_at-is at (get_member (codes "objects") ms))
-    ∙ needed-said toml_number_list at (row_start (codes "frontage") k) (codes "objects") ms (row_text (codes "frontage ") k (codes "objects"))
+    ∙ needed-said (array_of toml_number) at (row_start (codes "frontage") k) (codes "objects") ms (row_text (codes "frontage ") k (codes "objects"))
 
 -- what a frontage says
 frontage-said : (k : ℕ) (ms : Members) → told (frontage_value k (table ms)) ≡ frontage_at (row_start (codes "frontage") k) ms
@@ -123,7 +123,7 @@ unfolding frontage_in frontage_at
 frontage-said k ms =
     let start = row_start (codes "frontage") k in
     needed-step (λ (row : Frontage). row) name_of (key.Frontage k frontage.Name) start (codes "name") ms _ _ (row_text (codes "frontage ") k (codes "name")) (λ name.
-    step (λ (row : Frontage). row) (frontage_objects k ms) (needed toml_number_list start ms (codes "objects")) _ _ (objects-said k ms) (λ objects. refl))
+    step (λ (row : Frontage). row) (frontage_objects k ms) (needed (array_of toml_number) start ms (codes "objects")) _ _ (objects-said k ms) (λ objects. refl))
 
 -- what a stand says
 stand-said : (k : ℕ) (ms : Members) → told (stand_value k (table ms)) ≡ stand_at (row_start (codes "stand") k) ms
@@ -184,7 +184,7 @@ rows_by false at read says tables rows = refl
 
 -- what an array of tables says, which may be missing
 rows_value-said : {A : Type 0} (read : ℕ → Data → Result A WalkFault) (says : ℕ → Members → Result A FileFault) → ((k : ℕ) (ms : Members) → told (read k (table ms)) ≡ says k ms)
-    → (at : FileKey) (held : Option Data) → told (rows_value read at held) ≡ (ok_or (form_if_there tables_of held) (WrongKind (key_text at)) >>= (λ tables. each_from says 1 (unwrap_or tables [])))
+    → (at : FileKey) (held : Option Data) → told (rows_value read at held) ≡ (ok_or (form_if_there (array_of as_table) held) (WrongKind (key_text at)) >>= (λ tables. each_from says 1 (unwrap_or tables [])))
 unfolding each_from
 rows_value-said read says reads at None = refl
 rows_value-said read says reads at (Some (array ds)) =

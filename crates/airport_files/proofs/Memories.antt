@@ -1,6 +1,6 @@
 -- What files mean is never a lack of memory.
 use Rattle.std.proofs.Common.{◌≡◌, ◌≢◌, ℕ, ◌+◌, List, [], ◌∷◌, ◌++◌, codes, ok_or, Option, None, Some, option_map, Result, Ok, Err, ap}
-use Rattle.std.specs.Option.{option_or}
+use Rattle.std.specs.Option.{option_map_or, option_or}
 use Rattle.std.specs.Prelude.{unwrap_or}
 use Rattle.std.specs.Result.{result_map_both}
 use Rattle.csv_records.specs.Tables.{each_from, table_in}
@@ -13,9 +13,9 @@ use Rattle.apron_rules.specs.Refusals.{airport_fault, later_fault_of, duplicate_
 use Rattle.airport_files.specs.declared.read.FileFault.{FileFault}
 use Rattle.airport_files.specs.declared.read.FileFault.TheVariants as file
 use Rattle.airport_files.specs.Document.{document}
-use Rattle.airport_files.specs.Forms.{date_of, letter_of, name_of, station_of, tables_of, toml_number, toml_number_list}
+use Rattle.airport_files.specs.Forms.{array_of, date_of, letter_of, name_of, station_of, toml_number}
 use Rattle.airport_files.specs.Keys.{form_if_there, needed, optional, row_start, rows_at}
-use Rattle.airport_files.specs.Meaning.{types_in, airport_of_parts, unless_refused, meaning}
+use Rattle.airport_files.specs.Meaning.{types_in, airport_of_parts, meaning}
 use Rattle.airport_files.specs.Rows.{frontage_at, pair_at, parts_of, stand_at}
 use Rattle.airport_files.specs.Types.{types_after}
 
@@ -60,13 +60,13 @@ said_each says h k (x ∷ rest) = said_next _ _ (h k x) (λ first. said_next _ _
 
 said_rows : {A : Type 0} (says : List ℕ → Members → Result A FileFault) → ((start : List ℕ) (ms : Members) → IsSaid (says start ms)) → (ms : Members) (word : List ℕ) → IsSaid (rows_at says ms word)
 said_rows says h ms word =
-    said_next _ _ (said_optional tables_of [] ms word) (λ tables. said_each (λ k. says (row_start word k)) (λ k. h (row_start word k)) 1 (unwrap_or tables []))
+    said_next _ _ (said_optional (array_of as_table) [] ms word) (λ tables. said_each (λ k. says (row_start word k)) (λ k. h (row_start word k)) 1 (unwrap_or tables []))
 
 said_frontage : (start : List ℕ) (ms : Members) → IsSaid (frontage_at start ms)
 unfolding frontage_at
 said_frontage start ms =
     said_next _ _ (said_needed name_of start ms (codes "name")) (λ name.
-    said_next _ _ (said_needed toml_number_list start ms (codes "objects")) (λ objects. said_ok _))
+    said_next _ _ (said_needed (array_of toml_number) start ms (codes "objects")) (λ objects. said_ok _))
 
 said_stand : (start : List ℕ) (ms : Members) → IsSaid (stand_at start ms)
 unfolding stand_at
@@ -128,7 +128,7 @@ unfolding airport_fault later_fault_of
 fault-reason parts =
     either _ _ (reason refused.DuplicateName (λ x p. cc) (duplicate_of parts)) (either _ _ (reason refused.UnknownName (λ x p. cc) (unknown_of parts)) (either _ _ (reason refused.BadHalf (λ x p. cc) (bad_half_of parts)) (either _ _ (reason refused.LimitPassed (λ x p. cc) (limit_of parts)) (either _ _ (reason refused.BadSpan (λ x p. cc) (bad_span_of parts)) (either _ _ (reason refused.BadFold (λ x p. cc) (bad_fold_of parts)) (λ p. cc))))))
 
-said_unless : (parts : AirportParts) (fault : Option AirportFault) → IsReason fault → IsSaid (unless_refused parts fault)
+said_unless : (parts : AirportParts) (fault : Option AirportFault) → IsReason fault → IsSaid (option_map_or (λ (fault : AirportFault). Err (file.Airport fault)) fault (Ok parts))
 said_unless parts None h = (λ p. cc, λ p. cc)
 said_unless parts (Some fault) h = (λ p. cc, λ p. h (let same : fault ≡ refused.Memory = cc in ap Some same))
 

@@ -1,25 +1,18 @@
 -- The forms of values in an airport file, and what a key holds in a form.
-use Rattle.std.specs.Prelude.{ℕ, ℤ, pos, negsuc, ◌^◌, ◌&&◌, ◌||◌, ◌==◌, nat_lt, nat_le, Bool, List, [], ◌∷◌, length, slice_index, Option, Some, None, option_and_then, if◌then◌else◌}
+use Rattle.std.specs.Prelude.{ℕ, ℤ, pos, negsuc, ◌+◌, ◌^◌, ◌&&◌, ◌||◌, ◌==◌, nat_lt, nat_le, Bool, List, [], ◌∷◌, length, find, slice_index, Option, Some, None, option_and_then, option_map, if◌then◌else◌}
+use Rattle.std.specs.Char.{is_ascii_digit, is_ascii_uppercase}
 use Rattle.std.specs.List.{list_all}
-use Rattle.toml.specs.Data.{Data, Items, Members, as_integer, as_str, as_table, array, item, no_items}
+use Rattle.toml.specs.Data.{Data, Items, as_array, as_integer, as_str, item, no_items}
+use Rattle.apron_base.specs.Letter.{letter_rank, letter_table}
 use Rattle.apron_base.specs.OptionChain.{◌>>=◌}
 use Rattle.apron_base.specs.declared.letter.Letter.{Letter}
-use Rattle.apron_base.specs.declared.letter.Letter.TheVariants.{A, B, C, D, E, F}
 use Rattle.apron_dates.specs.Dates.{read_date}
 use Rattle.apron_dates.specs.declared.day.Date.{Date}
 use Rattle.apron_rules.specs.Names.{is_station}
 
--- a capital
-abbrev pub is_capital : ℕ → Bool
-is_capital b = nat_le 65 b && nat_le b 90
-
--- a digit
-abbrev pub is_decimal : ℕ → Bool
-is_decimal b = nat_le 48 b && nat_le b 57
-
 -- a capital or a digit
 abbrev pub is_short_byte : ℕ → Bool
-is_short_byte b = is_capital b || is_decimal b
+is_short_byte b = is_ascii_uppercase b || is_ascii_digit b
 
 -- at least `least` and at most `most` capitals or digits
 abbrev pub is_short_name : ℕ → ℕ → List ℕ → Bool
@@ -30,13 +23,9 @@ is_short_name least most text =
 abbrev pub text_if : (List ℕ → Bool) → List ℕ → Option (List ℕ)
 text_if test text = if test text then Some text else None
 
--- the most bytes of the name of a frontage or a stand
-abbrev pub longest_name : ℕ
-longest_name = 6
-
--- a name of at least one capital or digit, and at most as many as the longest name has
+-- the name of a frontage or a stand: 1 to 6 capitals or digits
 abbrev pub name_of : Data → Option (List ℕ)
-name_of d = option_and_then (text_if (is_short_name 1 longest_name)) (as_str d)
+name_of d = option_and_then (text_if (is_short_name 1 6)) (as_str d)
 
 -- three capitals
 abbrev pub station_of : Data → Option (List ℕ)
@@ -46,15 +35,10 @@ station_of d = option_and_then (text_if is_station) (as_str d)
 abbrev pub date_of : Data → Option Date
 date_of d = option_and_then read_date (as_str d)
 
--- the code letter of a byte
+-- the code letter of a byte, from A on in their order
 abbrev pub letter_of_byte : ℕ → Option Letter
 letter_of_byte b =
-    if b == 65 then Some A
-    else (if b == 66 then Some B
-    else (if b == 67 then Some C
-    else (if b == 68 then Some D
-    else (if b == 69 then Some E
-    else (if b == 70 then Some F else None)))))
+    option_map (λ row. row.letter) (find (λ row. b == 65 + letter_rank row.letter) letter_table)
 
 -- the code letter that a text names
 abbrev pub letter_named : List ℕ → Option Letter
@@ -83,13 +67,4 @@ items_in form (item d ds) = do
 
 -- an array of values of one form
 abbrev pub array_of : {A : Type 0} → (Data → Option A) → Data → Option (List A)
-array_of form (array ds) = items_in form ds
-array_of form _ = None
-
--- an array of whole numbers
-abbrev pub toml_number_list : Data → Option (List ℕ)
-toml_number_list = array_of toml_number
-
--- an array of tables
-abbrev pub tables_of : Data → Option (List Members)
-tables_of = array_of as_table
+array_of form d = option_and_then (items_in form) (as_array d)

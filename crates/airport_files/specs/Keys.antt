@@ -2,10 +2,10 @@
 use Rattle.std.specs.Prelude.{ℕ, List, [], ◌++◌, codes, decimal, Option, Some, None, option_map, unwrap_or, ok_or, Result}
 use Rattle.apron_base.specs.ResultChain.{◌>>=◌}
 use Rattle.csv_records.specs.Tables.{each_from}
-use Rattle.toml.specs.Data.{Data, Members, get_member}
+use Rattle.toml.specs.Data.{Data, Members, as_table, get_member}
 use Rattle.airport_files.specs.declared.read.FileFault.{FileFault}
 use Rattle.airport_files.specs.declared.read.FileFault.TheVariants.{MissingKey, WrongKind}
-use Rattle.airport_files.specs.Forms.{tables_of}
+use Rattle.airport_files.specs.Forms.{array_of}
 
 -- the value in a form that a table has at the key of this word; a fault has the text of the key,
 -- which is this start and the word
@@ -34,5 +34,5 @@ row_start array k = array ++ codes " " ++ decimal k ++ codes "."
 abbrev pub rows_at : {A : Type 0} → (List ℕ → Members → Result A FileFault) → Members → List ℕ
     → Result (List A) FileFault
 rows_at says file array = do
-  tables ← optional tables_of [] file array
+  tables ← optional (array_of as_table) [] file array
   each_from (λ k. says (row_start array k)) 1 (unwrap_or tables [])

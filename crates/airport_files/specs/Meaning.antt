@@ -1,11 +1,11 @@
 -- What an airport file and a type file mean together: the parts of an airport, or the first fault.
-use Rattle.std.specs.Prelude.{◌≡◌, ◌⊎◌, ℕ, List, Option, Some, None, ok_or, Result, Ok, Err}
+use Rattle.std.specs.Prelude.{◌≡◌, ◌⊎◌, ℕ, List, ok_or, Result, Ok, Err}
+use Rattle.std.specs.Option.{option_map_or}
 use Rattle.std.specs.Result.{result_map_both}
 use Rattle.apron_base.specs.ResultChain.{◌>>=◌}
 use Rattle.csv_records.specs.Tables.{table_in}
 use Rattle.apron_rules.specs.declared.parts.AirportParts.{AirportParts}
 use Rattle.apron_rules.specs.declared.parts.TypeRow.{TypeRow}
-use Rattle.apron_rules.specs.declared.refusals.AirportFault.{AirportFault}
 use Rattle.apron_rules.specs.Refusals.{airport_fault}
 use Rattle.airport_files.specs.declared.read.FileFault.{FileFault}
 use Rattle.airport_files.specs.declared.read.FileFault.TheVariants as file
@@ -22,14 +22,10 @@ Means (Err e) meant = (e ≡ file.Memory) ⊎ (meant ≡ Err e)
 unfoldable pub types_in : List ℕ → Result (List TypeRow) FileFault
 types_in types = result_map_both (λ rows. rows) file.BadRow (table_in types_after types)
 
--- the parts, unless they are refused
-abbrev pub unless_refused : AirportParts → Option AirportFault → Result AirportParts FileFault
-unless_refused parts None = Ok parts
-unless_refused parts (Some fault) = Err (file.Airport fault)
-
--- the airport of these parts
+-- the airport of these parts, unless they are refused
 unfoldable pub airport_of_parts : AirportParts → Result AirportParts FileFault
-airport_of_parts parts = unless_refused parts (airport_fault parts)
+airport_of_parts parts =
+    option_map_or (λ fault. Err (file.Airport fault)) (airport_fault parts) (Ok parts)
 
 -- the two files together: first the airport file, then the type file, then the airport that they
 -- make

@@ -8,14 +8,14 @@ use Rattle.apron_rules.specs.declared.parts.PairRow.{PairRow}
 use Rattle.apron_rules.specs.declared.parts.StandRow.{StandRow}
 use Rattle.apron_rules.specs.declared.parts.TypeRow.{TypeRow}
 use Rattle.airport_files.specs.declared.read.FileFault.{FileFault}
-use Rattle.airport_files.specs.Forms.{date_of, letter_of, name_of, station_of, toml_number, toml_number_list}
+use Rattle.airport_files.specs.Forms.{array_of, date_of, letter_of, name_of, station_of, toml_number}
 use Rattle.airport_files.specs.Keys.{needed, optional, rows_at}
 
 -- what the table of a frontage says
 unfoldable pub frontage_at : List ℕ → Members → Result Frontage FileFault
 frontage_at start table = do
   name ← needed name_of start table (codes "name")
-  objects ← needed toml_number_list start table (codes "objects")
+  objects ← needed (array_of toml_number) start table (codes "objects")
   Ok (record { name = name; objects = objects })
 
 -- what the table of a stand says

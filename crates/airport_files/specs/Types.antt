@@ -6,25 +6,13 @@ use Rattle.csv_records.specs.Tables.{are_fields}
 use Rattle.apron_rules.specs.declared.parts.TypeRow.{TypeRow}
 use Rattle.airport_files.specs.Forms.{is_short_name, text_if}
 
--- the fewest bytes of the name of a type
-abbrev pub shortest_type_name : ℕ
-shortest_type_name = 2
-
--- the most bytes of the name of a type
-abbrev pub longest_type_name : ℕ
-longest_type_name = 4
-
--- the name of a type, of capitals and digits
+-- the name of a type: 2 to 4 capitals or digits
 abbrev pub type_name : List ℕ → Option (List ℕ)
-type_name text = text_if (is_short_name shortest_type_name longest_type_name) text
-
--- the most digits of a number of a type file
-abbrev pub most_digits : ℕ
-most_digits = 9
+type_name text = text_if (is_short_name 2 4) text
 
 -- the number of 1 to 9 digits
 abbrev pub number_named : List ℕ → Option ℕ
-number_named text = number_of text most_digits
+number_named text = number_of text 9
 
 -- the type of a record of three fields, whose wing tips don't fold
 abbrev pub plain_type : List (List ℕ) → Option TypeRow

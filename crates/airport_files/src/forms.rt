@@ -1,11 +1,12 @@
 // The forms of values in an airport file.
-ghost use Rattle.std.specs.Prelude.{◌≡◌, ◌≤◌, ◌==◌, IfOk, IfSome, IsTrue, option_map, length};
+ghost use Rattle.std.specs.Prelude.{◌≡◌, ◌≤◌, IfOk, IfSome, IsTrue, option_map};
+ghost use Rattle.std.specs.Char.{is_ascii_uppercase};
 ghost use Rattle.std.specs.List.{list_all};
 ghost use Rattle.toml.specs.Data.{get_member};
 ghost use Rattle.toml.specs.View.{view, table_view};
 ghost use Rattle.apron_dates.specs.Dates.{IsFirstDay};
 ghost use Rattle.apron_rules.specs.Names.{is_station};
-ghost use Rattle.airport_files.specs.Forms.{toml_number, station_of, is_capital, text_if, is_short_byte, is_short_name, name_of, date_of, letter_of_byte, letter_named, letter_of};
+ghost use Rattle.airport_files.specs.Forms.{toml_number, station_of, text_if, is_short_byte, is_short_name, name_of, date_of, letter_of_byte, letter_named, letter_of};
 ghost use Rattle.airport_files.specs.Walk.{at_key, if_there};
 
 use crate::keys::{FileKey, WalkFault};
@@ -89,7 +90,7 @@ fn is_station(text: &[u8]) -> bool
 }
 
 fn are_capitals(text: &[u8]) -> bool
-    ensures is { result ≡ list_all is_capital text.now }
+    ensures is { result ≡ list_all is_ascii_uppercase text.now }
 {
     text.iter().all(|b| *b >= b'A' && *b <= b'Z')
 }

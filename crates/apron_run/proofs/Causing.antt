@@ -34,7 +34,7 @@ use Rattle.apron_run.specs.Run.{Does, KeptUnless, RunsAs}
 use Rattle.apron_run.specs.Statuses.{exit_code}
 use Rattle.apron_run.specs.TwoFiles.{WithFiles}
 use Rattle.apron_run.specs.Upgrade.{AtUpgrade}
-use Rattle.apron_run.specs.Words.{Subcommand, desk, init, check, chart, import, export, propose, upgrade, make, help, version, faulty, may_be_usage, number_within, uses_disk, uses_shelf, uses_source}
+use Rattle.apron_run.specs.Words.{Subcommand, desk, init, check, chart, import, export, propose, upgrade, make, help, version, faulty, number_within, uses_disk, uses_shelf, uses_source}
 use Rattle.apron_run.specs.World.{World}
 use Rattle.apron_run.specs.declared.end.End.{End}
 use Rattle.apron_run.specs.declared.end.End.TheVariants.{Printed, Served, Imported, Faulty, Unusable as Unworkable, Unasked}
@@ -46,6 +46,13 @@ use Rattle.apron_run.specs.declared.unusable.Unusable.{Unusable}
 use Rattle.apron_run.specs.declared.unusable.Unusable.TheVariants.{Journal, Entries}
 use Rattle.apron_run.proofs.Ends.{sink_least, told_by}
 use Rattle.apron_run.proofs.Importing.{AsksFound, all_faults}
+
+-- the program may end with the number of faulty words: if they are faulty, or if the plan has no
+-- such day
+abbrev may_be_usage : Subcommand → Bool
+may_be_usage faulty = true
+may_be_usage (chart airport types day) = true
+may_be_usage asked = false
 
 module _ (asked : Subcommand) (before after : World) where
   -- what a status says: which end of the outside failed, which what is asked for uses; or that the

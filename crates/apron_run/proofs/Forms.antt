@@ -2,7 +2,7 @@
 use Rattle.std.proofs.Common.{◌≡◌, ℕ, List, [], ◌∷◌, refl}
 use Rattle.apron_run.specs.Words.{Subcommand, faulty, subcommand_of}
 
--- the same, with no form looked at where there is none of so many words
+-- the same, where words as many as no form has are told apart first
 abbrev pub by_count : List (List ℕ) → Subcommand
 by_count [] = faulty
 by_count (a ∷ b ∷ c ∷ d ∷ e ∷ f ∷ rest) = faulty

@@ -94,13 +94,6 @@ subcommand_of words = unwrap_or (asked_by forms words) faulty
 abbrev pub ends_at_files : ℕ → Bool
 ends_at_files code = code == exit_code FileFault || code == exit_code ShelfFault
 
--- the program may end with the number of faulty words: if they are faulty, or if the plan has no
--- such day
-abbrev pub may_be_usage : Subcommand → Bool
-may_be_usage faulty = true
-may_be_usage (chart airport types day) = true
-may_be_usage asked = false
-
 -- whether the shelf is read for it
 abbrev pub uses_shelf : Subcommand → Bool
 uses_shelf (make visits) = false

@@ -13,7 +13,7 @@ use history_core::OpenFault;
 use journal_disk::JournalFault;
 
 /// How desks and screens were served.
-#[derive(Clone, Copy)]
+#[derive(Clone, Copy, Debug, PartialEq, Eq)]
 pub enum ServeEnd {
     /// Each listener has had all its connections.
     Done,

@@ -46,8 +46,8 @@ pub(crate) enum Asked<'w> {
     Upgrade,
 }
 
-/// What the words ask for. For each number of words a function has the forms of so many, in the
-/// order of the table `forms`.
+/// What the words ask for. A function for each number of words looks at the forms of that length,
+/// in the order of the table `forms`.
 #[tactic(auto, using(crate::proofs::Forms::counted))]
 pub(crate) fn subcommand_of(words: &[Word]) -> Subcommand<'_>
     ensures asked { subcommand_shown result ≡ subcommand_of words.now }

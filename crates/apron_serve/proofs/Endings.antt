@@ -30,8 +30,8 @@ use Rattle.apron_serve.specs.Orders.{Order, day_shown}
 use Rattle.apron_serve.specs.Serve.{ServesDay, ServesOrder, DoesServe, HaveFinished, ServesAs, SomeFailed, has_served, was_served}
 use Rattle.apron_serve.proofs.Finished.{Finished, desks_ended, none_finished, screens_ended}
 
--- the status is that of serving that was all done, or of one after which one of so many screens
--- missed the last version
+-- the status is that of serving that was all done, or of serving after which a screen missed the
+-- last version, where there are screens
 abbrev pub IsDone : ℕ → ℕ → Type 0
 IsDone screens code = (code ≡ exit_code Done) ⊎ ((code ≡ exit_code Memory) × (0 < screens))
 

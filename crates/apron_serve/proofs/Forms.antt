@@ -2,7 +2,7 @@
 use Rattle.std.proofs.Common.{◌≡◌, ℕ, List, [], ◌∷◌, Option, None, refl}
 use Rattle.apron_serve.specs.Orders.{Order, order_of_words}
 
--- the same, with no form looked at where there is none of so many words
+-- the same, where words as many as no form has are told apart first
 abbrev pub by_count : List (List ℕ) → Option Order
 by_count (a ∷ b ∷ c ∷ d ∷ []) = order_of_words (a ∷ b ∷ c ∷ d ∷ [])
 by_count (a ∷ b ∷ c ∷ d ∷ e ∷ f ∷ []) = order_of_words (a ∷ b ∷ c ∷ d ∷ e ∷ f ∷ [])

@@ -7,7 +7,8 @@ use Rattle.apron_serve.specs.Orders.{Order, day_shown}
 use Rattle.apron_serve.specs.Serve.{SomeFailed}
 
 module _ {In Out : Type 0} (from to : Listening In Out) where
-  -- no file fails, and the count of faults of no listener rose or is at its greatest value
+  -- the count of faults of the shelf, of the disk or of a listener neither rose nor is at its
+  -- greatest value
   pub record NoneFailsInServe (before after : World) : Type 0 where
     pub files : NoFileFails before after
     pub listeners : ¬ (SomeFailed from.listeners to.listeners)

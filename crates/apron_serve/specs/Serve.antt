@@ -14,7 +14,7 @@ use Rattle.apron_run.specs.declared.status.Status.TheVariants.{Done, Usage, File
 use Rattle.apron_serve.specs.Board.{AtServe, Listening, Service}
 use Rattle.apron_serve.specs.Orders.{Order, day_shown}
 
--- desks and screens were served
+-- whether desks and screens were served
 abbrev pub was_served : End → Bool
 was_served (ended.Attended served) = true
 was_served end = false
@@ -45,7 +45,7 @@ module _ {In Out : Type 0} where
   SomeFailed befores afters = ⊥
 
 module _ {In Out : Type 0} (service : Service In Out) (from to : Listening In Out) where
-  -- what is done at these files, by the day that screens are to show: nothing if the plan lacks it
+  -- what is done at these files, by the day that screens are to show, if their plan has it
   abbrev pub ServesDay : ℕ → AirportFiles → Option ℕ → World → World → End → Type 0
   ServesDay connections files (Some day) =
       AtServe service (record { connections = connections; day = day }) from to files
@@ -64,6 +64,7 @@ module _ {In Out : Type 0} (service : Service In Out) (from to : Listening In Ou
       × KeptUnless (was_served end) from to
 
   -- What `serve` does for an order, what a crash meanwhile or after it may leave, the line at its
-  -- end, and the status of its number. If there is no order it does nothing.
+  -- end, and the status of its number. If there is no order the line `usage` is written, and
+  -- nothing else is touched.
   abbrev pub ServesAs : Option Order → World → World → ℕ → Type 0
   ServesAs asked = EndsAs (DoesServe asked)

@@ -94,7 +94,7 @@ fn may_have(screens: usize, day: Option<&Word>) -> bool
     }
 }
 
-// For each number of words a function has the form of so many.
+// A function for each number of words looks at the form of that length.
 #[tactic(auto, using(crate::proofs::Forms::counted))]
 fn order_of_words(words: &[Word]) -> Option<Order<'_>>
     ensures order { option_map order_shown result ≡ order_of_words words.now }

@@ -1,9 +1,10 @@
 -- The body of a commit.
-use Rattle.std.specs.Prelude.{ℕ, ◌&&◌, List, [], ◌∷◌, nat_le, codes, Option, Some, None, option_map, option_and_then, if◌then◌else◌}
+use Rattle.std.specs.Prelude.{ℕ, ◌&&◌, List, [], ◌∷◌, nat_le, codes, Option, Some, None, if◌then◌else◌}
 use Rattle.serde_json.specs.Data.{Data, Items, no_items, item}
 use Rattle.serde_json.specs.Find.{get, as_array}
 use Rattle.serde_json.specs.Events.{items_len}
 use Rattle.apron_base.specs.Name.{is_name}
+use Rattle.apron_base.specs.OptionChain.{◌>>=◌}
 use Rattle.visit_book.specs.Edits.{most_edits}
 use Rattle.desk_bodies.specs.Fields.{body_data, max_u32, max_u8, number_at, text_at}
 
@@ -31,27 +32,21 @@ json_part_number d = number_at (codes "part") max_u8 d
 
 -- {"visit":N,"part":P,"stand":STAND}
 abbrev pub json_put : Data → Option EditSaid
-json_put d =
-    option_and_then (λ visit. option_and_then
-    (λ part. option_map (put visit part) (text_at (codes "stand") d)) (json_part_number d))
-    (json_visit_number d)
+json_put d = do
+  Some (put (← json_visit_number d) (← json_part_number d) (← text_at (codes "stand") d))
 
 -- {"visit":N,"part":P}
 abbrev pub json_lift : Data → Option EditSaid
-json_lift d =
-    option_and_then (λ visit. option_map (lift visit) (json_part_number d)) (json_visit_number d)
+json_lift d = do Some (lift (← json_visit_number d) (← json_part_number d))
 
 -- {"visit":N,"part":P,"at":M}
 abbrev pub json_cut : Data → Option EditSaid
-json_cut d =
-    option_and_then (λ visit. option_and_then
-    (λ part. option_map (cut visit part) (number_at (codes "at") max_u32 d)) (json_part_number d))
-    (json_visit_number d)
+json_cut d = do
+  Some (cut (← json_visit_number d) (← json_part_number d) (← number_at (codes "at") max_u32 d))
 
 -- {"visit":N,"part":P}
 abbrev pub json_join : Data → Option EditSaid
-json_join d =
-    option_and_then (λ visit. option_map (join visit) (json_part_number d)) (json_visit_number d)
+json_join d = do Some (join (← json_visit_number d) (← json_part_number d))
 
 -- the edit if exactly one of the four keys is there, whatever the value of the others would be
 abbrev pub only_edit : Option Data → Option Data → Option Data → Option Data → Option EditSaid
@@ -70,8 +65,7 @@ json_edit d =
 -- the edits in order
 abbrev pub json_edits : Items → Option (List EditSaid)
 json_edits no_items = Some []
-json_edits (item d ds) =
-    option_and_then (λ e. option_map (λ es. e ∷ es) (json_edits ds)) (json_edit d)
+json_edits (item d ds) = do Some ((← json_edit d) ∷ (← json_edits ds))
 
 -- 1 to 64 edits
 unfoldable pub edits_within : Items → Option (List EditSaid)
@@ -84,20 +78,17 @@ if_name text = if is_name text then Some text else None
 
 -- the name under a key
 unfoldable pub name_at : List ℕ → Data → Option (List ℕ)
-name_at key d = option_and_then if_name (text_at key d)
+name_at key d = text_at key d >>= if_name
 
 -- {"desk":NAME,"draft":N,"base":N,"edits":[EDIT, ..]}
 unfoldable pub json_commit : Data → Option CommitSaid
-json_commit d =
-    option_and_then (λ desk.
-    option_and_then (λ draft.
-    option_and_then (λ base.
-    option_map (λ edits. record { desk = desk; draft = draft; base = base; edits = edits })
-    (option_and_then edits_within (option_and_then as_array (get (codes "edits") d))))
-    (number_at (codes "base") max_u32 d))
-    (number_at (codes "draft") max_u32 d))
-    (name_at (codes "desk") d)
+json_commit d = do
+  desk ← name_at (codes "desk") d
+  draft ← number_at (codes "draft") max_u32 d
+  base ← number_at (codes "base") max_u32 d
+  edits ← get (codes "edits") d >>= as_array >>= edits_within
+  Some (record { desk = desk; draft = draft; base = base; edits = edits })
 
 -- the commit of a body
 abbrev pub body_commit : List ℕ → Option CommitSaid
-body_commit bytes = option_and_then json_commit (body_data bytes)
+body_commit bytes = body_data bytes >>= json_commit

@@ -1,6 +1,7 @@
 -- The JSON of a body, and the fields of its objects.
-use Rattle.std.specs.Prelude.{◌^◌, ◌-◌, ℕ, List, nat_le, Option, Some, None, option_and_then, if◌then◌else◌}
+use Rattle.std.specs.Prelude.{◌^◌, ◌-◌, ℕ, List, nat_le, Option, Some, None, if◌then◌else◌}
 use Rattle.std.specs.Str.{is_utf8}
+use Rattle.apron_base.specs.OptionChain.{◌>>=◌}
 use Rattle.serde_json.specs.Data.{Data}
 use Rattle.serde_json.specs.Read.{read}
 use Rattle.serde_json.specs.Find.{get, as_number, as_u64, as_str}
@@ -24,9 +25,8 @@ at_most most n = if nat_le n most then Some n else None
 
 -- the whole number under a key, written without sign, fraction and exponent, if it is at most that
 abbrev pub number_at : List ℕ → ℕ → Data → Option ℕ
-number_at key most d =
-    option_and_then (at_most most) (option_and_then as_u64 (option_and_then as_number (get key d)))
+number_at key most d = get key d >>= as_number >>= as_u64 >>= at_most most
 
 -- the text under a key
 abbrev pub text_at : List ℕ → Data → Option (List ℕ)
-text_at key d = option_and_then as_str (get key d)
+text_at key d = get key d >>= as_str

@@ -1,5 +1,6 @@
 -- The bodies of a report and of a cancel.
-use Rattle.std.specs.Prelude.{ℕ, List, codes, Option, Some, None, option_map, option_and_then}
+use Rattle.std.specs.Prelude.{ℕ, List, codes, Option, Some, None, option_map}
+use Rattle.apron_base.specs.OptionChain.{◌>>=◌}
 use Rattle.serde_json.specs.Data.{Data}
 use Rattle.serde_json.specs.Find.{get}
 use Rattle.desk_bodies.specs.Commits.{json_part_number, json_visit_number}
@@ -21,9 +22,7 @@ minute_at d = number_at (codes "minute") max_u32 d
 
 -- {"part":P,"stand":STAND,"minute":M}
 abbrev pub json_on : Data → Option EventSaid
-json_on d =
-    option_and_then (λ part. option_and_then (λ stand. option_map (on part stand) (minute_at d))
-    (text_at (codes "stand") d)) (json_part_number d)
+json_on d = do Some (on (← json_part_number d) (← text_at (codes "stand") d) (← minute_at d))
 
 -- {"minute":M}
 abbrev pub json_off : Data → Option EventSaid
@@ -37,14 +36,15 @@ only_event coming leaving = None
 
 -- {"visit":N,"on":..} or {"visit":N,"off":..}
 unfoldable pub json_report : Data → Option ReportSaid
-json_report d =
-    option_and_then (λ visit. option_map (λ event. record { visit = visit; event = event })
-    (only_event (get (codes "on") d) (get (codes "off") d))) (json_visit_number d)
+json_report d = do
+  visit ← json_visit_number d
+  event ← only_event (get (codes "on") d) (get (codes "off") d)
+  Some (record { visit = visit; event = event })
 
 -- the report of a body
 abbrev pub body_report : List ℕ → Option ReportSaid
-body_report bytes = option_and_then json_report (body_data bytes)
+body_report bytes = body_data bytes >>= json_report
 
 -- {"visit":N}, the number of the visit that a body cancels
 abbrev pub body_cancel : List ℕ → Option ℕ
-body_cancel bytes = option_and_then json_visit_number (body_data bytes)
+body_cancel bytes = body_data bytes >>= json_visit_number

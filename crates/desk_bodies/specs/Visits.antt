@@ -1,5 +1,6 @@
 -- The body of a visit that is to be added.
-use Rattle.std.specs.Prelude.{ℕ, List, codes, Option, Some, None, option_map, option_and_then}
+use Rattle.std.specs.Prelude.{ℕ, List, codes, Option, Some, None, option_map}
+use Rattle.apron_base.specs.OptionChain.{◌>>=◌}
 use Rattle.serde_json.specs.Data.{Data, null}
 use Rattle.serde_json.specs.Find.{get}
 use Rattle.mvt_grammar.specs.Flights.{flight_of}
@@ -20,10 +21,10 @@ pub record VisitSaid : Type 0 where
 
 -- {"flight":FLIGHT,"day":D}
 abbrev pub json_key : Data → Option Key
-json_key d =
-    option_and_then (λ flight. option_map (λ day. record { flight = flight; day = day })
-    (number_at (codes "day") max_u8 d))
-    (option_and_then flight_of (text_at (codes "flight") d))
+json_key d = do
+  flight ← text_at (codes "flight") d >>= flight_of
+  day ← number_at (codes "day") max_u8 d
+  Some (record { flight = flight; day = day })
 
 -- a key, or none if it is null or missing
 abbrev pub json_key_if : Option Data → Option (Option Key)
@@ -37,30 +38,16 @@ json_key_at name d = json_key_if (get name d)
 
 -- {"name":NAME,"type":TYPE,"class":C,"on":M,"off":M,"arr":KEY,"dep":KEY}
 unfoldable pub json_visit : Data → Option VisitSaid
-json_visit d =
-    option_and_then (λ name.
-    option_and_then (λ kind.
-    option_and_then (λ class.
-    option_and_then (λ on.
-    option_and_then (λ off.
-    option_and_then (λ arr.
-    option_map (λ dep. record {
-      name = name;
-      kind = kind;
-      class = class;
-      on = on;
-      off = off;
-      arr = arr;
-      dep = dep;
-    })
-    (json_key_at (codes "dep") d))
-    (json_key_at (codes "arr") d))
-    (number_at (codes "off") max_u32 d))
-    (number_at (codes "on") max_u32 d))
-    (number_at (codes "class") greatest_class d))
-    (text_at (codes "type") d))
-    (name_at (codes "name") d)
+json_visit d = do
+  name ← name_at (codes "name") d
+  kind ← text_at (codes "type") d
+  class ← number_at (codes "class") greatest_class d
+  on ← number_at (codes "on") max_u32 d
+  off ← number_at (codes "off") max_u32 d
+  arr ← json_key_at (codes "arr") d
+  dep ← json_key_at (codes "dep") d
+  Some (record { name = name; kind = kind; class = class; on = on; off = off; arr = arr; dep = dep })
 
 -- the visit of a body
 abbrev pub body_visit : List ℕ → Option VisitSaid
-body_visit bytes = option_and_then json_visit (body_data bytes)
+body_visit bytes = body_data bytes >>= json_visit

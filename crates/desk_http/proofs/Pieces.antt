@@ -167,7 +167,7 @@ abbrev behind_first : List (List ℕ) → List (List ℕ)
 behind_first [] = []
 behind_first (piece ∷ more) = more
 
--- the text after the word is what stands behind it
+-- the text after a target's first word is its other pieces, joined
 text_is : (behind : List ℕ) → text_after_word (slash ∷ behind) ≡ joined (behind_first (pieces behind))
 text_is behind =
     elim (position (λ byte. byte == slash) behind) as (λ o. position (λ byte. byte == slash) behind ≡ o

@@ -40,7 +40,7 @@ module _ (Comes : PortState → Request → Result Sent Outcome → PortState �
     pub wrote : Wrote false before.sink now.sink (texts_of airport sents)
     pub counted : length requests ≡ count
 
-  -- so many requests have left the session open, or it has ended
+  -- the session has served this many requests and is open, or it has ended
   abbrev pub GoesOnOrEnds : SessionState → SessionState → List ℕ → ℕ → Result (Unit {0}) Outcome
       → Type 0
   GoesOnOrEnds before now rest count (Ok done) = SoFar before now rest count

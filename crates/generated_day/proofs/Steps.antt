@@ -7,54 +7,31 @@ use Rattle.desk_asks.specs.declared.asks.Command.TheVariants.{AddVisit, Message}
 use Rattle.desk_words.specs.declared.replies.Reply.{Reply}
 use Rattle.generated_day.specs.Asked.{drawn_visit, estimate, passed_on, put_first, scheduled_on}
 use Rattle.generated_day.specs.DayAirport.{count_stands}
-use Rattle.generated_day.specs.Days.{Day, IsAsked, IsDayOf, IsDelayed, IsPlaced, IsPutTried, IsTried, IsVisitAdded, IsVisitMade, MakesDay, count_bumped, is_accepted, plan_of, summary_of, with_refusal}
+use Rattle.generated_day.specs.Days.{Day, IsAsked, IsDayOf, IsDelayed, IsPlaced, IsPutTried, IsTried, IsVisitAdded, IsVisitMade, MakesDay, count_bumped, is_accepted, plan_of, summary_of}
 use Rattle.generated_day.specs.Draws.{draw_below, seed_after}
 use Rattle.generated_day.specs.declared.summary.Summary.{Summary}
 use Rattle.apron_base.specs.declared.listed.Memory.{Memory}
 
-pub seed_kept : (command : Command) (day asked : Day) (reply : Reply) → IsAsked command day reply asked → asked.seed ≡ day.seed
-seed_kept command day asked reply h = ap (λ (d : Day). d.seed) h.1
-
-pub draft_kept : (command : Command) (day asked : Day) (reply : Reply) → IsAsked command day reply asked → asked.draft ≡ day.draft
-draft_kept command day asked reply h = ap (λ (d : Day). d.draft) h.1
-
-pub bumped_kept : (command : Command) (day asked : Day) (reply : Reply) → IsAsked command day reply asked → asked.bumped ≡ day.bumped
-bumped_kept command day asked reply h = ap (λ (d : Day). d.bumped) h.1
-
 pub added-by : (number seed : ℕ) (day asked : Day) (new : NewVisit) (reply : Reply) → new ≡ drawn_visit number day.seed → IsAsked (AddVisit new) day reply asked → seed ≡ seed_after 4 asked.seed
     → IsVisitAdded number day (record asked { seed = seed })
-added-by number seed day asked new reply same h draw_below = record {
-  asked = asked;
-  reply = reply;
-  is = rw same at h;
-  after_is = rw (draw_below, seed_kept (AddVisit new) day asked reply h) refl;
-}
+added-by number seed day asked new reply same h drawn = (reply, (rw same at h.0, rw drawn (ap (λ (d : Day). record d { seed = seed_after 4 d.seed }) h.1)))
 
 pub put-by : (number stand draft : ℕ) (day asked : Day) (command : Command) (reply : Reply) → command ≡ put_first day.draft (plan_of day).version number stand → IsAsked command day reply asked → draft ≡ asked.draft + 1
     → IsPutTried number stand day (record asked { draft = draft })
-put-by number stand draft day asked command reply same h next = record {
-  asked = asked;
-  reply = reply;
-  is = rw same at h;
-  after_is = rw (next, draft_kept command day asked reply h) refl;
-}
+put-by number stand draft day asked command reply same h next = (reply, (rw same at h.0, rw next (ap (λ (d : Day). record d { draft = d.draft + 1 }) h.1)))
 
 pub delayed-by : (number seed bumped : ℕ) (day asked : Day) (message : Mvt) (reply : Reply)
     → message ≡ estimate number (scheduled_on (plan_of day).visits number) (20 + draw_below 60 (seed_after 1 day.seed)) → IsAsked (Message (passed_on message)) day reply asked
     → seed ≡ seed_after 1 day.seed → bumped ≡ asked.bumped + count_bumped reply.told → IsDelayed number day (record asked { seed = seed; bumped = bumped })
-delayed-by number seed bumped day asked message reply same h draw_below more = record {
-  asked = asked;
-  reply = reply;
-  is = rw same at h;
-  after_is = rw (draw_below, more, bumped_kept (Message (passed_on message)) day asked reply h) refl;
-}
+delayed-by number seed bumped day asked message reply same h drawn more =
+    (reply, (rw same at h.0, rw (drawn, more) (ap (λ (d : Day). record d { seed = seed_after 1 day.seed; bumped = d.bumped + count_bumped reply.told }) h.1)))
 
 -- tries of a stand
 pub tried-last : (turns more number first t : ℕ) (day put : Day) → turns ≡ more + 1 → IsPutTried number ((first + t) % count_stands) day put → is_accepted day put ≡ true → IsTried turns number first t day put
 tried-last turns more number first t day put one h accepted = rw (one, add-one) (put, h, rw accepted refl)
 
 pub tried-next : (turns more number first t : ℕ) (day put after : Day) → turns ≡ more + 1 → IsPutTried number ((first + t) % count_stands) day put → is_accepted day put ≡ false
-    → IsTried more number first (t + 1) (with_refusal put) after → IsTried turns number first t day after
+    → IsTried more number first (t + 1) (record put { refused = put.refused + 1 }) after → IsTried turns number first t day after
 tried-next turns more number first t day put after one h refused rest = rw (one, add-one) (put, h, rw refused rest)
 
 pub tried-none : (turns number first t : ℕ) (day : Day) → turns ≡ 0 → IsTried turns number first t day day

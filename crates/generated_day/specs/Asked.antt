@@ -1,6 +1,7 @@
 -- What is asked while a day is made.
 use Rattle.std.specs.Prelude.{ℕ, ◌+◌, ◌%◌, ◌∷◌, [], List, codes, decimal, Some, None}
 use Rattle.std.specs.Option.{option_map_or}
+use Rattle.mvt_grammar.specs.Reading.{message_head}
 use Rattle.mvt_grammar.specs.declared.message.Flight.{Flight}
 use Rattle.mvt_grammar.specs.declared.message.Mvt.{Mvt}
 use Rattle.visit_book.specs.Numbers.{visit_at}
@@ -16,19 +17,15 @@ use Rattle.generated_day.specs.Draws.{draw_below, seed_after}
 abbrev pub day_flight : ℕ → Flight
 day_flight number = record { airline = codes "MK"; number = number; suffix = None }
 
--- the scheduled minute on block of the visit whose draws begin with this number of the generator
-abbrev pub drawn_on : ℕ → ℕ
-drawn_on seed = 30 + draw_below 1300 (seed_after 3 seed)
-
 -- the visit of this number, by four draws: of its type, its class, its minute on block, and how
 -- long it stays beyond 90 minutes
 unfoldable pub drawn_visit : ℕ → ℕ → NewVisit
-drawn_visit number seed = record {
+drawn_visit number seed = let on = 30 + draw_below 1300 (seed_after 3 seed) in record {
   name = 77 ∷ decimal number;
   kind = record { 0 = draw_below 5 (seed_after 1 seed) };
   class = draw_below 10 (seed_after 2 seed);
-  on = drawn_on seed;
-  off = drawn_on seed + 90 + draw_below 60 (seed_after 4 seed);
+  on = on;
+  off = on + 90 + draw_below 60 (seed_after 4 seed);
   arr = Some (record { flight = day_flight number; day = 1 });
   dep = None;
 }
@@ -50,16 +47,10 @@ scheduled_on visits number =
 -- a message that the visit of this number is estimated on the ground this many minutes after this
 -- one, as a clock time
 unfoldable pub estimate : ℕ → ℕ → ℕ → Mvt
-estimate number on delay = record {
-  flight = day_flight number;
-  day = 27;
-  registration = codes "GEN";
-  station = codes "MUC";
-  ad = None;
-  aa = None;
-  ea = Some (record { day = None; minute = (on + delay) % 1440 }, codes "APR");
-  ed = None;
-}
+estimate number on delay =
+    record (message_head (day_flight number) 27 (codes "GEN") (codes "MUC")) {
+      ea = Some (record { day = None; minute = (on + delay) % 1440 }, codes "APR");
+    }
 
 -- the message, as the desk of this day passes it on
 abbrev pub passed_on : Mvt → DeskMessage

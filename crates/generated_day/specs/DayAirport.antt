@@ -3,7 +3,6 @@ use Rattle.std.specs.Prelude.{ℕ, ◌*◌, List, [], ◌∷◌, codes, map, Non
 use Rattle.std.specs.List.{range_with_len}
 use Rattle.apron_base.specs.declared.letter.Letter.TheVariants.{E}
 use Rattle.apron_rules.specs.declared.parts.AirportParts.{AirportParts}
-use Rattle.apron_rules.specs.declared.parts.Frontage.{Frontage}
 use Rattle.apron_rules.specs.declared.parts.StandRow.{StandRow}
 use Rattle.apron_rules.specs.declared.parts.TypeRow.{TypeRow}
 use Rattle.mvt_grammar.specs.Canonical.{two_text}
@@ -29,13 +28,8 @@ day_stands = map day_stand (range_with_len 1 count_stands)
 
 -- a type of this name, wing span and least minutes, whose wing tips do not fold
 abbrev pub day_type : List ℕ → ℕ → ℕ → TypeRow
-day_type name span least = record {
-  name = name;
-  span = span;
-  least = least;
-  parked = span;
-  fold = 0;
-}
+day_type name span least =
+    record { name = name; span = span; least = least; parked = span; fold = 0 }
 
 -- the types
 abbrev pub day_types : List TypeRow
@@ -45,10 +39,6 @@ day_types =
     ∷ day_type (codes "B190") 1767 20 ∷ day_type (codes "A388") 7975 90
     ∷ day_type (codes "X360") 3600 40 ∷ []
 
--- the frontage on which all stands lie
-abbrev pub day_frontage : Frontage
-day_frontage = record { name = codes "G"; objects = [] }
-
 -- two days from the 27th of March 2026 on, at sixty stands of letter E on one frontage
 unfoldable pub day_airport : AirportParts
 day_airport = record {
@@ -57,7 +47,7 @@ day_airport = record {
   days = 2;
   taxi_in = 5;
   tow = 20;
-  frontages = day_frontage ∷ [];
+  frontages = record { name = codes "G"; objects = [] } ∷ [];
   stands = day_stands;
   pairs = [];
   types = day_types;

@@ -52,22 +52,16 @@ abbrev pub is_accepted : Day → Day → Bool
 is_accepted day after = nat_lt (length day.history) (length after.history)
 
 -- the visit of this number was drawn, and asked to be added
-pub record IsVisitAdded (number : ℕ) (day after : Day) : Type 0 where
-  pub asked : Day
-  pub reply : Reply
-  pub is : IsAsked (AddVisit (drawn_visit number day.seed)) day reply asked
-  pub after_is : after ≡ record asked { seed = seed_after 4 day.seed }
+abbrev pub IsVisitAdded : ℕ → Day → Day → Type 0
+IsVisitAdded number day after =
+    (reply : Reply) × IsAsked (AddVisit (drawn_visit number day.seed))
+    (record day { seed = seed_after 4 day.seed }) reply after
 
 -- the next draft asked to put the visit on the stand
-pub record IsPutTried (number stand : ℕ) (day after : Day) : Type 0 where
-  pub asked : Day
-  pub reply : Reply
-  pub is : IsAsked (put_first day.draft (plan_of day).version number stand) day reply asked
-  pub after_is : after ≡ record asked { draft = day.draft + 1 }
-
--- the day with one more commit that was refused
-abbrev pub with_refusal : Day → Day
-with_refusal day = record day { refused = day.refused + 1 }
+abbrev pub IsPutTried : ℕ → ℕ → Day → Day → Type 0
+IsPutTried number stand day after =
+    (reply : Reply) × IsAsked (put_first day.draft (plan_of day).version number stand)
+    (record day { draft = day.draft + 1 }) reply after
 
 -- the visit was tried on at most this many consecutive stands, from the t-th after the first on,
 -- until one accepted
@@ -76,13 +70,13 @@ IsTried zero number first t day after = after ≡ day
 IsTried (suc turns) number first t day after =
     (put : Day) × IsPutTried number ((first + t) % count_stands) day put
     × MatchBool (is_accepted day put) (after ≡ put)
-    (IsTried turns number first (t + 1) (with_refusal put) after)
+    (IsTried turns number first (t + 1) (record put { refused = put.refused + 1 }) after)
 
 -- a stand was drawn, and it and the seven after it were tried
 abbrev pub IsPlaced : ℕ → Day → Day → Type 0
 IsPlaced number day after =
-    IsTried 8 number (draw_below count_stands (seed_after 1 day.seed)) 0
-    (record day { seed = seed_after 1 day.seed }) after
+    let seed = seed_after 1 day.seed in
+    IsTried 8 number (draw_below count_stands seed) 0 (record day { seed = seed }) after
 
 -- how many parts a message's reply names as bumped
 abbrev pub count_bumped : ReplyBody → ℕ
@@ -91,23 +85,18 @@ count_bumped told = 0
 
 -- a delay was drawn, and a message said that the visit of this number is late by this delay and 20
 -- minutes
-pub record IsDelayed (number : ℕ) (day after : Day) : Type 0 where
-  pub asked : Day
-  pub reply : Reply
-  pub is : IsAsked (Message
-      (passed_on (estimate number (scheduled_on (plan_of day).visits number)
-      (20 + draw_below 60 (seed_after 1 day.seed))))) day reply asked
-  pub after_is : after
-      ≡ record asked { seed = seed_after 1 day.seed; bumped = day.bumped + count_bumped reply.told }
+abbrev pub IsDelayed : ℕ → Day → Day → Type 0
+IsDelayed number day after =
+    let seed = seed_after 1 day.seed in let on = scheduled_on (plan_of day).visits number in
+    (reply : Reply) × IsAsked (Message (passed_on (estimate number on (20 + draw_below 60 seed))))
+    (record day { seed = seed; bumped = day.bumped + count_bumped reply.told }) reply after
 
 -- what is made with the visit of this number: it is added and placed, and with each fourth visit
 -- the visit of half its number is delayed
-pub record IsVisitMade (number : ℕ) (day after : Day) : Type 0 where
-  pub added : Day
-  pub placed : Day
-  pub adds : IsVisitAdded number day added
-  pub places : IsPlaced number added placed
-  pub delays : MatchBool (number % 4 == 0) (IsDelayed (number / 2) placed after) (after ≡ placed)
+abbrev pub IsVisitMade : ℕ → Day → Day → Type 0
+IsVisitMade number day after =
+    (added : Day) × (placed : Day) × IsVisitAdded number day added × IsPlaced number added placed
+    × MatchBool (number % 4 == 0) (IsDelayed (number / 2) placed after) (after ≡ placed)
 
 -- the day of this many visits
 abbrev pub IsDayOf : ℕ → Day → Type 0

@@ -1,6 +1,6 @@
 // The airport of a generated day.
 ghost use Rattle.std.specs.Prelude.{◌≡◌, ◌≤◌, IfOk};
-ghost use Rattle.generated_day.specs.DayAirport.{day_airport, day_frontage, day_stand, day_stands, day_types};
+ghost use Rattle.generated_day.specs.DayAirport.{day_airport, day_stand, day_stands, day_types};
 
 use apron_base::{Letter, Listed, Memory, Name};
 use apron_rules::{Airport, AirportFault, AirportParts, Date, Frontage, StandRow, TypeRow};

@@ -1,7 +1,7 @@
 -- The lines of a season file, one after the other.
-use Rattle.std.proofs.Common.{◌≡◌, ℕ, ◌+◌, ◌<◌, ◌^◌, cond, true, false, List, [], ◌∷◌, ◌++◌, length, codes, decimal, map, take, get_or, refl, sym, ap, ◌∙◌, append_assoc, arith, Some}
+use Rattle.std.proofs.Common.{◌≡◌, ℕ, ◌+◌, ◌<◌, ◌^◌, cond, true, false, List, [], ◌∷◌, ◌++◌, length, codes, decimal, map, take, get_or, refl, ap, ◌∙◌, append_assoc, arith, Some}
 use Rattle.std.specs.Prelude.{IfSome}
-use Rattle.std.specs.List.{filter, flat_map}
+use Rattle.std.specs.List.{flat_map}
 use Rattle.std.proofs.lemmas.Grind.{flat_map-append}
 use Rattle.std.proofs.lemmas.List.{append-nil, map-append}
 use Rattle.std.proofs.lemmas.List.Elements.{filter_more}
@@ -14,7 +14,7 @@ use Rattle.visit_book.specs.NewVisits.{HasFlight, new_of}
 use Rattle.visit_book.specs.declared.visits.NewVisit.{NewVisit}
 use Rattle.visit_book.specs.declared.visits.Visit.{Visit}
 use Rattle.season_files.specs.Texts.{columns, day_field, flight_field, is_uncancelled, line, name_of_type, season_of, season_text, visit_fields, visit_line}
-use Rattle.season_files.proofs.Plain.{ArePlain, IsPlain, day-plain, decimal-plain, flight-plain, name-plain, row-plain}
+use Rattle.season_files.proofs.Plain.{ArePlain, day-plain, decimal-plain, flight-plain, name-plain, row-plain}
 use Rattle.season_files.proofs.Times.{IsSeasonVisit, day-below, times_of}
 use Rattle.season_files.proofs.TypeNames.{IsRowOf, name_of_type-is}
 

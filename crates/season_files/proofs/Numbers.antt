@@ -1,9 +1,9 @@
 -- Numbers, names and keys that are written are read back.
-use Rattle.std.proofs.Common.{◌≡◌, ◌∙◌, ℕ, ◌<◌, ◌≤◌, ◌^◌, ◌==◌, suc, Bool, true, false, cond, List, [], ◌∷◌, ◌++◌, length, decimal, refl, sym, ap, arith, Option, None, Some, IfSome, SomeIff}
+use Rattle.std.proofs.Common.{◌≡◌, ℕ, ◌<◌, ◌≤◌, ◌^◌, ◌==◌, true, false, cond, List, [], ◌∷◌, length, decimal, refl, arith, Option, None, Some, IfSome, SomeIff}
 use Rattle.std.specs.Prelude.{◌&&◌, nat_le}
 use Rattle.std.specs.Char.{is_ascii_digit}
 use Rattle.std.specs.List.{list_all}
-use Rattle.std.specs.Str.Parse.{AllDigits, digits_value}
+use Rattle.std.specs.Str.Parse.{AllDigits}
 use Rattle.std.proofs.lemmas.Bool.{and_from, le-leb}
 use Rattle.std.proofs.lemmas.Bool.Decides.{nat_tests}
 use Rattle.std.proofs.lemmas.Fmt.{decimal_is_IsNumeral, decimal_nonempty, length-decimal-le}
@@ -11,13 +11,12 @@ use Rattle.std.proofs.lemmas.Str.Parse.{digit_from_value}
 use Rattle.apron_base.specs.Digits.{are_digits, number_of}
 use Rattle.apron_base.specs.Name.{IsName, is_name}
 use Rattle.apron_base.proofs.NameTests.{name_decides}
-use Rattle.mvt_grammar.specs.Canonical.{flight_text}
 use Rattle.mvt_grammar.specs.Flights.{flight_of}
 use Rattle.mvt_grammar.specs.declared.message.Flight.{Flight}
 use Rattle.mvt_grammar.proofs.FlightsBack.{flight_of-back}
 use Rattle.visit_book.specs.NewVisits.{HasFlight}
 use Rattle.visit_book.specs.declared.visits.Key.{Key}
-use Rattle.season_files.specs.Records.{at_most, greatest_day, if_name, key_named, number_named, small_named}
+use Rattle.season_files.specs.Records.{if_name, key_named, number_named, small_named}
 use Rattle.season_files.specs.Texts.{day_field, flight_field}
 
 pub name-back : (text : List ℕ) → IsName text → if_name text ≡ Some text
@@ -50,11 +49,11 @@ some_text : (text : List ℕ) (flight : Flight) → flight_of text ≡ Some flig
 some_text [] flight h = absurd (cc)
 some_text (b ∷ text) flight h = grind (arith, nat_tests)
 
-pub key-back : (key : Option Key) → IfSome key HasFlight → IfSome key (λ key. key.day ≤ greatest_day) → key_named (flight_field key) (day_field key) ≡ Some key
+pub key-back : (key : Option Key) → IfSome key HasFlight → IfSome key (λ key. key.day ≤ 255) → key_named (flight_field key) (day_field key) ≡ Some key
 key-back None h k = refl
 key-back (Some key) h k =
     let read = flight_of-back key.flight h in
-    rw (some_text _ key.flight read, read, small-back greatest_day key.day k (omega arith)) refl
+    rw (some_text _ key.flight read, read, small-back 255 key.day k (omega arith)) refl
 
 -- a text that has the property of a name passes the test of one
 pub named : (text : List ℕ) (o : Option (List ℕ)) → SomeIff o (IsName text) text → o ≡ if_name text

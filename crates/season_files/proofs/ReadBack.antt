@@ -1,23 +1,16 @@
 -- A season file that is written is read back.
-use Rattle.std.proofs.Common.{◌≡◌, ◌∙◌, ℕ, zero, suc, ◌+◌, ◌*◌, ◌<◌, ◌≤◌, ◌^◌, Bool, true, false, List, [], ◌∷◌, ◌++◌, length, map, refl, sym, ap, subst, arith, Option, None, Some, IfSome, Ok, All, add-one, append_assoc}
-use Rattle.std.specs.Prelude.{◌&&◌, nat_le, nat_lt, option_to_list}
-use Rattle.std.specs.List.{filter, flat_map, list_all, AllByRecursion}
-use Rattle.std.proofs.lemmas.Bool.{and_parts, leb-true, ltb-true}
+use Rattle.std.proofs.Common.{◌≡◌, ℕ, zero, suc, ◌+◌, ◌<◌, ◌≤◌, ◌^◌, List, [], ◌∷◌, ◌++◌, length, map, refl, ap, subst, arith, Some, Ok, All, add-one}
+use Rattle.std.specs.List.{filter, flat_map, AllByRecursion}
 use Rattle.std.proofs.lemmas.List.{length-append}
 use Rattle.std.proofs.lemmas.List.Elements.{All-filter, All-map, All-weaker, recursion_from_All}
-use Rattle.apron_base.specs.Name.{IsName}
-use Rattle.apron_base.specs.ResultChain.{◌>>=◌}
-use Rattle.apron_rules.specs.Rules.{IsAirport, least_of}
+use Rattle.apron_rules.specs.Rules.{IsAirport}
 use Rattle.apron_rules.specs.declared.parts.AirportParts.{AirportParts}
 use Rattle.csv.specs.Machine.{next_record}
 use Rattle.csv.specs.Reading.{default_config, records_from, strip_bom}
-use Rattle.csv.specs.Writing.{default_writer, row_text}
 use Rattle.csv.specs.declared.parser.State.TheVariants as st
 use Rattle.csv.proofs.RoundTrip.{read-write-many}
 use Rattle.csv_records.specs.Tables.{each_from, rows_from, table_of}
-use Rattle.visit_book.specs.NewVisits.{HasFlight, IsNewVisitOf, is_in_time, is_key_in_time, new_of}
-use Rattle.visit_book.specs.WellFormed.{plan_end}
-use Rattle.visit_book.specs.declared.visits.Key.{Key}
+use Rattle.visit_book.specs.NewVisits.{new_of}
 use Rattle.visit_book.specs.declared.visits.NewVisit.{NewVisit}
 use Rattle.visit_book.specs.declared.visits.Visit.{Visit}
 use Rattle.season_files.specs.Laws.{HasName, IsVisitOf, SeasonIsReadBack}

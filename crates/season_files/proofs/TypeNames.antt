@@ -15,7 +15,7 @@ use Rattle.apron_rules.proofs.Airports.{left_none, right_none}
 use Rattle.apron_rules.proofs.ByPlace.{place_at}
 use Rattle.season_files.specs.Laws.{HasName}
 use Rattle.season_files.specs.Records.{type_named}
-use Rattle.season_files.specs.Texts.{name_of_row, name_of_type}
+use Rattle.season_files.specs.Texts.{name_of_type}
 
 unmapped : {A B : Type 0} (f : A → B) (o : Option A) → option_map f o ≡ None → o ≡ None
 unmapped f None h = refl
@@ -48,7 +48,7 @@ type_row airport kind named h = elim (slice_get_cases airport.types kind.0).1 [
 ]
 
 pub name_of_type-is : (airport : AirportParts) (kind : TypeNo) (row : TypeRow) → slice_get airport.types kind.0 ≡ Some row → name_of_type airport kind ≡ row.name
-name_of_type-is airport kind row at = ap name_of_row at
+name_of_type-is airport kind row at = rw at refl
 
 -- a type is found by its name
 pub type-back : (airport : AirportParts) (kind : TypeNo) (row : TypeRow) → airport_fault airport ≡ None → IsRowOf airport kind row → type_named airport (name_of_type airport kind) ≡ Some kind

@@ -13,10 +13,6 @@ use Rattle.visit_book.specs.WellFormed.{greatest_class}
 use Rattle.visit_book.specs.declared.visits.Key.{Key}
 use Rattle.visit_book.specs.declared.visits.NewVisit.{NewVisit}
 
--- the greatest day that a key can have
-abbrev pub greatest_day : ℕ
-greatest_day = 255
-
 -- the text, if it is a name
 abbrev pub if_name : List ℕ → Option (List ℕ)
 if_name text = if is_name text then Some text else None
@@ -27,27 +23,19 @@ type_named airport text = do
   name ← if_name text
   option_map (λ place. record { 0 = place }) (place_of name (type_names airport))
 
--- the number, if it isn't above this one
-abbrev pub at_most : ℕ → ℕ → Option ℕ
-at_most most number = if nat_le number most then Some number else None
-
--- the most digits of a number
-abbrev pub most_digits : ℕ
-most_digits = 9
-
 -- the number of 1 to 9 digits
 abbrev pub number_named : List ℕ → Option ℕ
-number_named text = number_of text most_digits
+number_named text = number_of text 9
 
 -- the number of 1 to 9 digits, if it isn't above this one
 abbrev pub small_named : ℕ → List ℕ → Option ℕ
-small_named most text = number_named text >>= at_most most
+small_named most text = number_named text >>= (λ n. if nat_le n most then Some n else None)
 
--- the key of a flight and a day
+-- the key of a flight and a day from 0 to 255
 abbrev pub key_with : List ℕ → List ℕ → Option Key
 key_with flight day = do
   flight ← flight_of flight
-  day ← small_named greatest_day day
+  day ← small_named 255 day
   Some (record { flight = flight; day = day })
 
 -- no key if both are empty, or the key of a flight and a day

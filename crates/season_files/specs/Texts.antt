@@ -1,10 +1,10 @@
 -- The text of a season file.
-use Rattle.std.specs.Prelude.{ℕ, not, Bool, true, false, List, [], ◌∷◌, ◌++◌, codes, decimal, map, Option, Some, None}
+use Rattle.std.specs.Prelude.{ℕ, not, Bool, true, false, List, [], ◌∷◌, ◌++◌, codes, decimal, map, Option}
 use Rattle.std.specs.List.{filter, flat_map, join_with_byte}
+use Rattle.std.specs.Option.{option_map_or}
 use Rattle.apron_base.specs.declared.numbers.TypeNo.{TypeNo}
 use Rattle.apron_rules.specs.Rules.{type_at}
 use Rattle.apron_rules.specs.declared.parts.AirportParts.{AirportParts}
-use Rattle.apron_rules.specs.declared.parts.TypeRow.{TypeRow}
 use Rattle.mvt_grammar.specs.Canonical.{flight_text}
 use Rattle.visit_book.specs.NewVisits.{new_of}
 use Rattle.visit_book.specs.declared.visits.End.{End}
@@ -23,24 +23,17 @@ columns =
     codes "name" ∷ codes "type" ∷ codes "class" ∷ codes "on" ∷ codes "off"
     ∷ codes "arr" ∷ codes "arrday" ∷ codes "dep" ∷ codes "depday" ∷ []
 
--- the name of a row, empty if there is none
-abbrev pub name_of_row : Option TypeRow → List ℕ
-name_of_row None = []
-name_of_row (Some row) = row.name
-
--- the name of a type
+-- the name of a type, empty if there is none
 abbrev pub name_of_type : AirportParts → TypeNo → List ℕ
-name_of_type airport kind = name_of_row (type_at airport kind)
+name_of_type airport kind = option_map_or (λ row. row.name) (type_at airport kind) []
 
 -- the flight of a key, its number without leading zeros; empty if there is no key
 abbrev pub flight_field : Option Key → List ℕ
-flight_field None = []
-flight_field (Some key) = flight_text key.flight
+flight_field key = option_map_or (λ key. flight_text key.flight) key []
 
 -- the day of a key; empty if there is no key
 abbrev pub day_field : Option Key → List ℕ
-day_field None = []
-day_field (Some key) = decimal key.day
+day_field key = option_map_or (λ key. decimal key.day) key []
 
 -- the fields of a visit, in order of the columns
 abbrev pub visit_fields : AirportParts → NewVisit → List (List ℕ)
