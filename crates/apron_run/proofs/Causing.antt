@@ -30,14 +30,14 @@ use Rattle.apron_run.specs.Make.{AtMake}
 use Rattle.apron_run.specs.PlanText.{AtPlan}
 use Rattle.apron_run.specs.Print.{help_text, version_text}
 use Rattle.apron_run.specs.Propose.{IsProposed}
-use Rattle.apron_run.specs.Run.{Does, KeptUnless, RunsAs}
+use Rattle.apron_run.specs.Run.{DoesAsked, KeptUnless, RunsAs}
 use Rattle.apron_run.specs.Statuses.{exit_code}
 use Rattle.apron_run.specs.TwoFiles.{WithFiles}
 use Rattle.apron_run.specs.Upgrade.{AtUpgrade}
 use Rattle.apron_run.specs.Words.{Subcommand, desk, init, check, chart, import, export, propose, upgrade, make, help, version, faulty, number_within, uses_disk, uses_shelf, uses_source}
 use Rattle.apron_run.specs.World.{World}
 use Rattle.apron_run.specs.declared.end.End.{End}
-use Rattle.apron_run.specs.declared.end.End.TheVariants.{Printed, Served, Imported, Faulty, Unusable as Unworkable, Unasked}
+use Rattle.apron_run.specs.declared.end.End.TheVariants.{Printed, Served, Imported, Faulty, Memory as Wanting, Unusable as Unworkable, Unasked}
 use Rattle.apron_run.specs.declared.imported.Imported.{Imported as How}
 use Rattle.apron_run.specs.declared.imported.Imported.TheVariants as imports
 use Rattle.apron_run.specs.declared.status.Status.{Status}
@@ -107,10 +107,10 @@ module _ (asked : Subcommand) (before after : World) where
     unworkable_says (Entries fault) none = (tt, tt)
 
     plan_says : (Answers : AirportParts → List Entry → List ℕ → Type 0) (end : End) → AtPlan Answers made (record before { shelf = shelf }) after end → Says end
-    plan_says Answers (Printed text) at = let untouched = at.0 in (untouched.sink, tt)
-    plan_says Answers (Faulty files.Memory) at = (tt, tt)
+    plan_says Answers (Printed text) at = let untouched = at.2.0 in (untouched.sink, tt)
+    plan_says Answers Wanting at = (tt, tt)
     plan_says Answers (Unworkable why) at = unworkable_says why at
-    plan_says Answers end at = absurd at
+    plan_says Answers end at = absurd at.2
 
     day_says : may_be_usage asked ≡ true → (day : Option ℕ) (end : End) → AtDay made day (record before { shelf = shelf }) after end → Says end
     day_says may (Some day) end at = plan_says (IsChart day) end at
@@ -149,40 +149,40 @@ module _ (asked : Subcommand) (before after : World) where
           absurd (subst (λ (w : How). HasSeasonCause made.airport season shelf after.shelf (Err w)) (sym is) finds.cause)
 
     season_says : uses_shelf asked ≡ true → shelf.faults ≡ before.shelf.faults → (season : List ℕ) (end : End) → AtSeason season made (record before { shelf = shelf }) after end → Says end
-    season_says used same season (Imported (imports.Whole added present)) (source, still, whole) = (still, tt)
-    season_says used same season (Imported imports.ShelfFault) (source, still, at) =
-        let begun : Reached = opened_board made.airport at.opened before.disk.faults in
+    season_says used same season (Imported (imports.Whole added present)) (opened, opens, (source, still, whole)) = (still, tt)
+    season_says used same season (Imported imports.ShelfFault) (opened, opens, (source, still, at)) =
+        let begun : Reached = opened_board made.airport opened before.disk.faults in
         (tt, (used, subst (λ (n : ℕ). Rose n after.shelf.faults) same (season_shelf season begun at.left at.found at.finds at.asks)))
-    season_says used same season (Imported imports.DiskFault) (source, still, at) =
-        let begun : Reached = opened_board made.airport at.opened before.disk.faults in
+    season_says used same season (Imported imports.DiskFault) (opened, opens, (source, still, at)) =
+        let begun : Reached = opened_board made.airport opened before.disk.faults in
         (tt, (uses, subst (Rose before.disk.faults) at.faults (season_disk season begun at.left at.found at.finds at.asks)))
     season_says used same season (Imported how) at = (tt, tt)
     season_says used same season (Unworkable why) at = unworkable_says why at
-    season_says used same season end at = absurd at
+    season_says used same season end at = absurd at.2
 
 desk_says : (feeds : FeedTexts) (airport types : List ℕ) (files : AirportFiles) (before : World) (shelf : ShelfState) (after : World) (end : End)
     → AtDesk feeds files (record before { shelf = shelf }) after end → Says (desk airport types) before after end
-desk_says feeds airport types files before shelf after (Served came.ReadFault) (same, serves) =
+desk_says feeds airport types files before shelf after (Served came.ReadFault) (opened, opens, (same, serves)) =
     let session = serves.session in
     let took = session.took in
     let counts : Counts true before.source.faults after.source.faults = took.faults in
     (tt, (refl, counts.1))
-desk_says feeds airport types files before shelf after (Served came.WriteFault) (same, serves) =
+desk_says feeds airport types files before shelf after (Served came.WriteFault) (opened, opens, (same, serves)) =
     let session = serves.session in
     let wrote = session.wrote in
     let counts : Counts true before.sink.faults after.sink.faults = wrote.faults in
     (tt, counts.1)
 desk_says feeds airport types files before shelf after (Served outcome) at = (tt, tt)
 desk_says feeds airport types files before shelf after (Unworkable why) at = unworkable_says (desk airport types) before after files shelf refl why at
-desk_says feeds airport types files before shelf after end at = absurd at
+desk_says feeds airport types files before shelf after end at = absurd at.2
 
 make_says : (visits : ℕ) (before after : World) (end : End) → AtMake visits before after end → Says (make visits) before after end
 make_says visits before after (Printed line) at = let untouched = at.1 in (untouched.sink, tt)
-make_says visits before after (Faulty files.Memory) at = (tt, tt)
+make_says visits before after Wanting at = (tt, tt)
 make_says visits before after end at = absurd at
 
 -- each word
-does_say : (feeds : FeedTexts) (asked : Subcommand) (before after : World) (end : End) → Does feeds asked before after end → Says asked before after end
+does_say : (feeds : FeedTexts) (asked : Subcommand) (before after : World) (end : End) → DoesAsked feeds asked before after end → Says asked before after end
 does_say feeds (desk airport types) before after end =
     files_say (desk airport types) before after (AtDesk feeds) end refl (λ files shelf same at. desk_says feeds airport types files before shelf after end at)
 does_say feeds (init airport types) before after end =
@@ -310,7 +310,7 @@ module _ (feeds : FeedTexts) (asked : Subcommand) (before after : World) (code :
   usage none = by_ran ran
     where
       is : runs.end ≡ Unasked
-      is = let (is, untouched) = subst (λ (a : Subcommand). Does feeds a before mid runs.end) none runs.does in is
+      is = let (is, untouched) = subst (λ (a : Subcommand). DoesAsked feeds a before mid runs.end) none runs.does in is
 
       by_ran : EndsAt before after runs.end code → code ≡ exit_code Usage
       by_ran (inl same) = same ∙ ap (λ (e : End). exit_code (status_of e)) is

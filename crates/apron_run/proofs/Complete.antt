@@ -13,14 +13,13 @@ use Rattle.apron_run.specs.Init.{AtInit}
 use Rattle.apron_run.specs.Make.{AtMake}
 use Rattle.apron_run.specs.PlanText.{AtPlan}
 use Rattle.apron_run.specs.Propose.{IsProposed}
-use Rattle.apron_run.specs.Run.{Does, RunsAs}
+use Rattle.apron_run.specs.Run.{DoesAsked, RunsAs}
 use Rattle.apron_run.specs.Statuses.{exit_code}
 use Rattle.apron_run.specs.Upgrade.{AtUpgrade}
 use Rattle.apron_run.specs.Words.{Subcommand, desk, init, check, chart, import, export, propose, upgrade, make, help, version, faulty, number_within}
 use Rattle.apron_run.specs.World.{World}
-use Rattle.apron_check.specs.declared.faults.FilesFault.TheVariants as files
 use Rattle.apron_run.specs.declared.end.End.{End}
-use Rattle.apron_run.specs.declared.end.End.TheVariants.{Printed, Faulty}
+use Rattle.apron_run.specs.declared.end.End.TheVariants.{Printed, Memory as Wanting}
 use Rattle.apron_run.specs.declared.status.Status.{Status}
 use Rattle.apron_run.proofs.Causing.{EndsAt, line_least, ran, rose_on}
 use Rattle.apron_run.proofs.Completing.{Well, day_well, files_well, init_well, moved_season, plan_well, season_well}
@@ -29,11 +28,11 @@ use Rattle.apron_run.proofs.Upgrading.{upgrade_well}
 
 make_well : (visits : ℕ) (before after : World) (end : End) → AtMake visits before after end → Well (status_of end)
 make_well visits before after (Printed line) at = inl refl
-make_well visits before after (Faulty files.Memory) at = inr refl
+make_well visits before after Wanting at = inr refl
 make_well visits before after end at = absurd at
 
 -- each word
-does_well : (feeds : FeedTexts) (asked : Subcommand) (before after : World) (end : End) → CanBeRun asked before → NoneFails before after → Does feeds asked before after end
+does_well : (feeds : FeedTexts) (asked : Subcommand) (before after : World) (end : End) → CanBeRun asked before → NoneFails before after → DoesAsked feeds asked before after end
     → Well (status_of end)
 does_well feeds (desk airport types) before after end (made, has, (history, told, opens, input)) free =
     files_well made airport types before after end has free.files.shelf (AtDesk feeds) (λ shelf same alike.

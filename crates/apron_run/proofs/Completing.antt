@@ -30,7 +30,7 @@ use Rattle.apron_run.specs.PlanText.{AtPlan}
 use Rattle.apron_run.specs.TwoFiles.{WithFiles}
 use Rattle.apron_run.specs.World.{World}
 use Rattle.apron_run.specs.declared.end.End.{End}
-use Rattle.apron_run.specs.declared.end.End.TheVariants.{Printed, Imported as Ended, Faulty, Unusable as Unworkable}
+use Rattle.apron_run.specs.declared.end.End.TheVariants.{Printed, Imported as Ended, Faulty, Memory as Wanting, Unusable as Unworkable}
 use Rattle.apron_run.specs.declared.imported.Imported.{Imported}
 use Rattle.apron_run.specs.declared.imported.Imported.TheVariants as how
 use Rattle.apron_run.specs.declared.status.Status.{Status}
@@ -97,9 +97,9 @@ init_well made before after end empty disk at = absurd at
 module _ (made : AirportFiles) (history : List Entry) (before after : World) (has : HasJournal made before.disk history) (disk : ¬ (Rose before.disk.faults after.disk.faults)) where
   pub plan_well : (Answers : AirportParts → List Entry → List ℕ → Type 0) (end : End) → AtPlan Answers made before after end → Well (status_of end)
   plan_well Answers (Printed text) at = inl refl
-  plan_well Answers (Faulty files.Memory) at = inr refl
+  plan_well Answers Wanting at = inr refl
   plan_well Answers (Unworkable why) at = inr (unopened_wants made before.disk after.disk history has why at.uses disk)
-  plan_well Answers end at = absurd at
+  plan_well Answers end at = absurd at.2
 
   pub day_well : (day : Option ℕ) (end : End) → IsSome day → AtDay made day before after end → Well (status_of end)
   day_well None end some at = absurd cc
@@ -247,10 +247,10 @@ module _ (made : AirportFiles) (history : List Entry) (season : List ℕ) (befor
       inr (ap (λ (i : Imported). status_of (Ended i)) wanting)
 
   pub season_well : (end : End) → AtSeason season made before after end → Well (status_of end)
-  season_well (Ended imported) (source, sink, meets) =
-      let same : meets.opened ≡ history = opened_once made before.disk after.disk history has meets.opened meets.opens in
+  season_well (Ended imported) (opened, opens, (source, sink, meets)) =
+      let same : opened ≡ history = opened_once made before.disk after.disk history has opened opens in
       asks_well meets.found meets.left imported
       (season_found made.airport season before.shelf after.shelf valid.visits valid.told valid.tells shelf meets.found meets.finds) meets.faults
       (subst (λ (es : List Entry). AsksFound made.airport meets.found (opened_board made.airport es before.disk.faults) meets.left imported) same meets.asks)
   season_well (Unworkable why) at = inr (unopened_wants made before.disk after.disk history has why at.uses disk)
-  season_well end at = absurd at
+  season_well end at = absurd at.2

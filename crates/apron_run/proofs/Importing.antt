@@ -32,13 +32,11 @@ abbrev pub season_imported : {K : Type 0} (tells : K → KeeperState) (files : A
     → left.airport ≡ board.airport → (tells left.keeper).faults ≡ after.disk.faults
     → KeepsHistory (record { airport = left.airport; digests = files.digests }) left.history left.at_risk after.disk
     → Survives files.digests left.history left.at_risk before.disk after.disk
-    → ImportsSeason files season before after imported
+    → ImportsSeason season files board.history before after imported
 season_imported tells files season before after board left imported opened (found, finds, asks) same faults keeps survives =
     let airport : board.airport ≡ files.airport = opened.airport_is in
     let start : machine_state tells board ≡ opened_board files.airport board.history before.disk.faults = rw (opened.at_risk, opened.airport_is, opened.next, opened.faults) refl in
     record {
-      opened = board.history;
-      opens = opened.opens;
       found = found;
       finds = subst (λ (a : AirportParts). FindsSeason a season before.shelf after.shelf found) airport finds;
       left = machine_state tells left;

@@ -11,21 +11,20 @@ use Rattle.desk_workers.specs.Watched.{FeedTexts}
 use Rattle.apron_check.specs.Files.{FindsFiles}
 use Rattle.apron_check.specs.declared.files.AirportFiles.{AirportFiles}
 use Rattle.apron_check.specs.declared.faults.FilesFault.{FilesFault}
-use Rattle.apron_check.specs.declared.faults.FilesFault.TheVariants as files
 use Rattle.apron_run.specs.Desk.{AtDesk}
 use Rattle.apron_run.specs.End.{status_of}
 use Rattle.apron_run.specs.Import.{AtSeason}
 use Rattle.apron_run.specs.Init.{AtInit}
 use Rattle.apron_run.specs.Journal.{WhyUnusable}
 use Rattle.apron_run.specs.PlanText.{AtPlan}
-use Rattle.apron_run.specs.Run.{Does}
+use Rattle.apron_run.specs.Run.{DoesAsked}
 use Rattle.apron_run.specs.Statuses.{exit_code}
 use Rattle.apron_run.specs.Upgrade.{AtUpgrade}
 use Rattle.apron_run.specs.Words.{Subcommand, desk, init, import, upgrade, help, uses_disk, uses_source}
 use Rattle.apron_run.specs.WordsShown.{subcommand_at}
 use Rattle.apron_run.specs.World.{Untouched, World}
 use Rattle.apron_run.specs.declared.end.End.{End}
-use Rattle.apron_run.specs.declared.end.End.TheVariants.{Printed, Served, Imported, Faulty, Unusable as Unworkable}
+use Rattle.apron_run.specs.declared.end.End.TheVariants.{Printed, Served, Imported, Faulty, Memory as Wanting, Unusable as Unworkable}
 use Rattle.apron_run.specs.declared.imported.Imported.TheVariants as imports
 use Rattle.apron_run.specs.declared.status.Status.TheVariants.{Done, WriteFault, DiskFault, JournalFault, Memory}
 use Rattle.apron_run.specs.declared.unusable.Unusable.{Unusable}
@@ -40,7 +39,7 @@ untouched_same world = record { shelf = refl; source = refl; sink = refl; uses =
 
 -- what is done if the two files make no airport
 pub fault_does : (feeds : FeedTexts) (airport types : List ℕ) (asked : Asked) (before : World) (shelf : ShelfState) (fault : FilesFault)
-    → FindsFiles before.shelf shelf airport types (Err fault) → Does feeds (subcommand_at airport types asked) before (record before { shelf = shelf }) (Faulty fault)
+    → FindsFiles before.shelf shelf airport types (Err fault) → DoesAsked feeds (subcommand_at airport types asked) before (record before { shelf = shelf }) (Faulty fault)
 fault_does feeds airport types word.Desk before shelf fault finds =
     record { found = Err fault; shelf = shelf; finds = finds; at = (refl, untouched_same (record before { shelf = shelf })) }
 fault_does feeds airport types asked before shelf fault finds =
@@ -73,9 +72,9 @@ module _ (uses : ℕ → Bool) (failed : uses (exit_code DiskFault) ≡ true) (n
   pub plan_used : uses (exit_code Done) ≡ true → (Answers : AirportParts → List Entry → List ℕ → Type 0) (before after : World) (end : End) → AtPlan Answers made before after end
       → uses (exit_code (status_of end)) ≡ true
   plan_used all Answers before after (Printed text) at = all
-  plan_used all Answers before after (Faulty files.Memory) at = wanting
+  plan_used all Answers before after Wanting at = wanting
   plan_used all Answers before after (Unworkable why) at = unworkable_used before.disk after.disk why (let not = at.uses in not.cause)
-  plan_used all Answers before after end at = absurd at
+  plan_used all Answers before after end at = absurd at.2
 
 module _ (airport types : List ℕ) (made : AirportFiles) (before after : World) where
   -- a session takes the source, unless there is no journal to work on
@@ -84,14 +83,14 @@ module _ (airport types : List ℕ) (made : AirportFiles) (before after : World)
   desk_source feeds (Served came.Memory) at kept none = absurd cc
   desk_source feeds (Served outcome) at kept none = absurd cc
   desk_source feeds (Unworkable why) at kept none = kept why refl
-  desk_source feeds end at kept none = absurd at
+  desk_source feeds end at kept none = absurd at.2
 
   pub desk_used : (feeds : FeedTexts) (end : End) → AtDesk feeds made before after end → uses_disk (desk airport types) (exit_code (status_of end)) ≡ true
   desk_used feeds (Served came.Memory) at = refl
   desk_used feeds (Served outcome) at = refl
   desk_used feeds (Unworkable why) at =
       unworkable_used (uses_disk (desk airport types)) refl refl refl made before.disk after.disk why (let not = at.uses in not.cause)
-  desk_used feeds end at = absurd at
+  desk_used feeds end at = absurd at.2
 
   pub init_used : (end : End) → AtInit made before after end → uses_disk (init airport types) (exit_code (status_of end)) ≡ true
   init_used (Printed text) at = refl
@@ -104,7 +103,7 @@ module _ (airport types : List ℕ) (made : AirportFiles) (before after : World)
   season_used season (Imported how) at = refl
   season_used season (Unworkable why) at =
       unworkable_used (uses_disk (import airport types season)) refl refl refl made before.disk after.disk why (let not = at.uses in not.cause)
-  season_used season end at = absurd at
+  season_used season end at = absurd at.2
 
   pub upgrade_used : (end : End) → AtUpgrade made before after end → uses_disk (upgrade airport types) (exit_code (status_of end)) ≡ true
   upgrade_used (Printed text) at = refl

@@ -251,7 +251,7 @@ abbrev pub desk_serves : {K R : Type 0} (tells : K → KeeperState) (shows : R �
     → watch_fixed done.machine ≡ watch_fixed start.machine → after.disk.faults ≡ (tells done.machine.board.keeper).faults
     → KeepsHistory (record { airport = done.machine.board.airport; digests = files.digests }) done.machine.board.history done.machine.board.at_risk after.disk
     → Survives files.digests done.machine.board.history done.machine.board.at_risk before.disk after.disk
-    → ServesDesk (feed_texts shows watches) files before after outcome
+    → ServesDesk (feed_texts shows watches) files board.history before after outcome
 desk_serves {K} {R} tells shows watches files before after board start done outcome opened begins first session fixed counted keeps survives =
     let feeds : FeedTexts = feed_texts shows watches in
     let fresh : WatchHeld K R = record { board = board; watches = watches; next = board.next } in
@@ -277,8 +277,6 @@ desk_serves {K} {R} tells shows watches files before after board start done outc
     subst (λ (a : AirportParts). KeepsHistory (record { airport = a; digests = files.digests }) done.machine.board.history done.machine.board.at_risk after.disk) airport keeps in
     let still : IsLegal files.airport done.machine.board.history = kept_legal files done.machine.board.history done.machine.board.at_risk after.disk kept in
     record {
-      opened = board.history;
-      opens = opened.opens;
       port = port_over done.first (watch_state tells done.machine);
       session = whole;
       spent = alone_spent (watch_state tells done.machine) done.first (omega arith);

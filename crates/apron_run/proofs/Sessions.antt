@@ -33,6 +33,7 @@ use Rattle.apron_check.specs.declared.files.AirportFiles.{AirportFiles}
 use Rattle.apron_run.specs.Complete.{HasInput, takes_number}
 use Rattle.apron_run.specs.Desk.{AtDesk, ServesDesk, session_state, new_port}
 use Rattle.apron_run.specs.End.{status_of}
+use Rattle.apron_run.specs.Journal.{OpensTo}
 use Rattle.apron_run.specs.World.{World}
 use Rattle.apron_run.specs.declared.end.End.{End}
 use Rattle.apron_run.specs.declared.end.End.TheVariants.{Served, Unusable as Unworkable}
@@ -200,9 +201,9 @@ module _ (feeds : FeedTexts) (made : AirportFiles) (history : List Entry) (befor
     (valid : HasInput made.airport before.source history) (source : ¬ (Rose before.source.faults after.source.faults)) (sink : ¬ (Rose before.sink.faults after.sink.faults))
     (disk : ¬ (Rose before.disk.faults after.disk.faults)) where
   -- that had memory and call numbers enough
-  other_well : (outcome : Outcome) → outcome ≢ came.Memory → outcome ≢ came.Spent → ServesDesk feeds made before after outcome → Well (status_of (Served outcome))
-  other_well outcome memory spent serves =
-      let start : SessionState = session_state before (new_port serves.opened before.disk.faults) in
+  other_well : (outcome : Outcome) → outcome ≢ came.Memory → outcome ≢ came.Spent → (opened : List Entry) → ServesDesk feeds made opened before after outcome → Well (status_of (Served outcome))
+  other_well outcome memory spent opened serves =
+      let start : SessionState = session_state before (new_port opened before.disk.faults) in
       let end : SessionState = session_state after serves.port in
       let free : IsUnhindered start end outcome = record { memory = memory; numbers = spent; source = source; sink = sink } in
       let each : AnswersEachBy (DeskAnswers feeds made.airport) made.airport start end outcome valid.input =
@@ -210,17 +211,17 @@ module _ (feeds : FeedTexts) (made : AirportFiles) (history : List Entry) (befor
       let (ending, reads, ends) = in_time valid.input valid.requests valid.reads in
       inl (comes_to_done valid.input valid.requests outcome ending each.requests each.last reads ends (each.each valid.requests ending reads) each.ends)
 
-  numbers_last : ServesDesk feeds made before after came.Spent → ⊥
-  numbers_last serves =
-      let same : serves.opened ≡ history = opened_once made before.disk after.disk history has serves.opened serves.opens in
+  numbers_last : (opened : List Entry) → OpensTo made before.disk opened → ServesDesk feeds made opened before after came.Spent → ⊥
+  numbers_last opened opens serves =
+      let same : opened ≡ history = opened_once made before.disk after.disk history has opened opens in
       let (ending, reads, ends) = in_time valid.input valid.requests valid.reads in
-      spent_never feeds made.airport (session_state before (new_port serves.opened before.disk.faults))
+      spent_never feeds made.airport (session_state before (new_port opened before.disk.faults))
       (session_state after serves.port) valid.input valid.told valid.requests ending reads serves.session refl serves.spent
       (subst (λ (es : List Entry). next_after es + count_of_asks made.airport valid.requests ≤ call_limit) (sym same) valid.numbers)
 
   pub desk_well : (end : End) → AtDesk feeds made before after end → Well (status_of end)
   desk_well (Served came.Memory) at = inr refl
-  desk_well (Served came.Spent) (same, serves) = absurd (numbers_last serves)
-  desk_well (Served other) (same, serves) = other_well other (λ is. cc) (λ is. cc) serves
+  desk_well (Served came.Spent) (opened, opens, (same, serves)) = absurd (numbers_last opened opens serves)
+  desk_well (Served other) (opened, opens, (same, serves)) = other_well other (λ is. cc) (λ is. cc) opened serves
   desk_well (Unworkable why) at = inr (unopened_wants made before.disk after.disk history has why at.uses disk)
-  desk_well end at = absurd at
+  desk_well end at = absurd at.2

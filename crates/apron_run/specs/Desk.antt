@@ -11,7 +11,7 @@ use Rattle.desk_http.specs.Session.{SessionState, SessionBy}
 use Rattle.desk_workers.specs.Alone.{AloneFeeds}
 use Rattle.desk_workers.specs.Watched.{FeedTexts}
 use Rattle.apron_check.specs.declared.files.AirportFiles.{AirportFiles}
-use Rattle.apron_run.specs.Journal.{KeepsHistory, NoJournal, OpensTo}
+use Rattle.apron_run.specs.Journal.{KeepsHistory, WithJournal}
 use Rattle.apron_run.specs.Survival.{Survives}
 use Rattle.apron_run.specs.World.{World}
 use Rattle.apron_run.specs.declared.end.End.{End}
@@ -35,7 +35,7 @@ new_port opened faults = record {
 
 -- `feeds` says what the reply to each feed is, by the airport and the history
 module _ (feeds : FeedTexts) where
-  -- The headline for one desk. The journal of the files opened to a legal history. The session
+  -- The headline for one desk, at the legal history that the journal opened to. The session
   -- answered the requests at the front of the bytes that it took, in order, and wrote the replies,
   -- byte for byte, up to where its outcome says. A request that asks nothing of the plan, and for
   -- no feed, has its fixed reply. Each other one has the next call number, from one above the last
@@ -46,10 +46,8 @@ module _ (feeds : FeedTexts) where
   -- survives a crash, and after each of its entries the plan is sound. The disk is the journal of
   -- the same files with it; or, if it has failed, with it and perhaps the entry of a request whose
   -- reply said that it could not be kept, after which none was added, and with which it is legal.
-  pub record ServesDesk (files : AirportFiles) (before after : World)
+  pub record ServesDesk (files : AirportFiles) (opened : List Entry) (before after : World)
       (outcome : Outcome) : Type 0 where
-    pub opened : List Entry
-    pub opens : OpensTo files before.disk opened
     pub port : PortState
     pub session : SessionBy
         (FedAnswers AloneAsks (AloneFeeds (feeds files.airport)) files.airport) files.airport
@@ -64,9 +62,12 @@ module _ (feeds : FeedTexts) where
     pub keeps : KeepsHistory files port.seen port.at_risk after.disk
     pub survives : Survives files.digests port.seen port.at_risk before.disk after.disk
 
+  -- a session is served at the opened history
+  abbrev pub ServesSession : AirportFiles → List Entry → World → World → End → Type 0
+  ServesSession files opened before after (ended.Served outcome) = (after.shelf ≡ before.shelf)
+      × ServesDesk files opened before after outcome
+  ServesSession files opened before after end = ⊥
+
   -- what the word does at these files: a session on their journal
   abbrev pub AtDesk : AirportFiles → World → World → End → Type 0
-  AtDesk files before after (ended.Served outcome) = (after.shelf ≡ before.shelf)
-      × ServesDesk files before after outcome
-  AtDesk files before after (ended.Unusable why) = NoJournal files why before after
-  AtDesk files before after end = ⊥
+  AtDesk = WithJournal ServesSession

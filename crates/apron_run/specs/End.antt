@@ -54,6 +54,7 @@ status_of (ended.Unusable (Journal journal.NotEmpty)) = NotEmpty
 status_of (ended.Unusable (Journal journal.Memory)) = Memory
 status_of (ended.Unusable (Entries entries.Memory)) = Memory
 status_of (ended.Unusable why) = JournalFault
+status_of ended.Memory = Memory
 status_of ended.Unasked = Usage
 
 -- its status if the sink fails at its line: the same, unless all was done
@@ -74,6 +75,7 @@ line_of (ended.Imported import.Spent) = None
 line_of (ended.Imported how) = Some (imported_text how ++ 10 ∷ [])
 line_of (ended.Faulty fault) = Some (fault_line fault)
 line_of (ended.Unusable why) = Some (unusable_text why ++ 10 ∷ [])
+line_of ended.Memory = Some (fault_line files.Memory)
 line_of ended.Unasked = Some usage_text
 
 -- its line was written, if there is one, and the run has its status

@@ -8,7 +8,7 @@ use Rattle.season_files.specs.Seasons.{season_in}
 use Rattle.desk_asks.specs.declared.asks.Entry.{Entry}
 use Rattle.apron_check.specs.declared.files.AirportFiles.{AirportFiles}
 use Rattle.apron_run.specs.Asking.{AsksSeason, Reached, opened_board}
-use Rattle.apron_run.specs.Journal.{KeepsHistory, NoJournal, OpensTo}
+use Rattle.apron_run.specs.Journal.{KeepsHistory, WithJournal}
 use Rattle.apron_run.specs.Survival.{Survives}
 use Rattle.apron_run.specs.World.{World}
 use Rattle.apron_run.specs.declared.end.End.{End}
@@ -59,13 +59,11 @@ pub record FindsSeason (airport : AirportParts) (season : List ℕ) (before afte
   pub more : before.read ≤ after.read
   pub kept : (name : List ℕ) → after.file name ≡ before.file name
 
--- One import: it began with the history that the disk opened to, asked for the visits that it found
--- in the season file, if any, with call numbers from one above the last entry's on, and left the
--- disk with the history as it then was, which survives a crash.
-pub record ImportsSeason (files : AirportFiles) (season : List ℕ) (before after : World)
-    (imported : Imported) : Type 0 where
-  pub opened : List Entry
-  pub opens : OpensTo files before.disk opened
+-- One import: it began with the opened history, asked for the visits that it found in the season
+-- file, if any, with call numbers from one above the last entry's on, and left the disk with the
+-- history as it then was, which survives a crash.
+pub record ImportsSeason (season : List ℕ) (files : AirportFiles) (opened : List Entry)
+    (before after : World) (imported : Imported) : Type 0 where
   pub found : Result (List NewVisit) Imported
   pub finds : FindsSeason files.airport season before.shelf after.shelf found
   pub left : Reached
@@ -77,10 +75,13 @@ pub record ImportsSeason (files : AirportFiles) (season : List ℕ) (before afte
   pub keeps : KeepsHistory files left.history left.at_risk after.disk
   pub survives : Survives files.digests left.history left.at_risk before.disk after.disk
 
+-- the season is imported into the opened history
+abbrev pub TakesSeason : List ℕ → AirportFiles → List Entry → World → World → End → Type 0
+TakesSeason season files opened before after (ended.Imported how) =
+    (after.source ≡ before.source) × (after.sink ≡ before.sink)
+    × ImportsSeason season files opened before after how
+TakesSeason season files opened before after end = ⊥
+
 -- what the word does at these files: an import into their journal
 abbrev pub AtSeason : List ℕ → AirportFiles → World → World → End → Type 0
-AtSeason season files before after (ended.Imported how) =
-    (after.source ≡ before.source) × (after.sink ≡ before.sink)
-    × ImportsSeason files season before after how
-AtSeason season files before after (ended.Unusable why) = NoJournal files why before after
-AtSeason season files before after end = ⊥
+AtSeason season = WithJournal (TakesSeason season)

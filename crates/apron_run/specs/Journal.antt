@@ -13,6 +13,8 @@ use Rattle.journal_disk.specs.Faults.{OpenFails}
 use Rattle.journal_disk.specs.Header.{digests_in, opening_of}
 use Rattle.apron_check.specs.declared.files.AirportFiles.{AirportFiles}
 use Rattle.apron_run.specs.World.{OnDisk, World}
+use Rattle.apron_run.specs.declared.end.End.{End}
+use Rattle.apron_run.specs.declared.end.End.TheVariants as ended
 use Rattle.apron_run.specs.declared.unusable.Unusable.{Unusable}
 use Rattle.apron_run.specs.declared.unusable.Unusable.TheVariants.{Journal, Entries}
 
@@ -34,7 +36,7 @@ WhyUnusable files before after (Entries fault) =
     × Counts false before.faults after.faults
     × CannotOpen files.airport entries fault
 
--- no board was opened, and nothing was written
+-- no board was opened, and the disk reads as before
 pub record NotOpened (files : AirportFiles) (before after : DiskState)
     (why : Unusable) : Type 0 where
   pub stays : Stays before after
@@ -44,6 +46,15 @@ pub record NotOpened (files : AirportFiles) (before after : DiskState)
 abbrev pub NoJournal : AirportFiles → Unusable → World → World → Type 0
 NoJournal files why before after =
     OnDisk (λ old new. NotOpened files old new why) before after
+
+-- by what it does at the history that the journal opened to
+module _ (At : AirportFiles → List Entry → World → World → End → Type 0) where
+  -- the journal of these files opened to a history, and this was done there; or there is none to
+  -- work on
+  abbrev pub WithJournal : AirportFiles → World → World → End → Type 0
+  WithJournal files before after (ended.Unusable why) = NoJournal files why before after
+  WithJournal files before after end =
+      (opened : List Entry) × OpensTo files before.disk opened × At files opened before after end
 
 -- the bytes have these two digests in their header
 abbrev pub IsOf : List ℕ → List ℕ → Type 0

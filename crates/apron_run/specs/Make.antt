@@ -1,6 +1,5 @@
 -- What the word `make` does.
 use Rattle.std.specs.Prelude.{◌≡◌, ℕ}
-use Rattle.apron_check.specs.declared.faults.FilesFault.TheVariants as files
 use Rattle.generated_day.specs.Days.{MakesDay}
 use Rattle.generated_day.specs.Summaries.{summary_text}
 use Rattle.generated_day.specs.declared.summary.Summary.{Summary}
@@ -13,5 +12,5 @@ abbrev pub AtMake : ℕ → World → World → End → Type 0
 AtMake visits before after (ended.Printed line) =
     ((summary : Summary) × MakesDay visits summary × (line ≡ summary_text summary))
     × Untouched before after
-AtMake visits before after (ended.Faulty files.Memory) = Untouched before after
+AtMake visits before after ended.Memory = Untouched before after
 AtMake visits before after end = ⊥

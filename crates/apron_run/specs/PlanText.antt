@@ -3,22 +3,20 @@ use Rattle.std.specs.Prelude.{ℕ, List}
 use Rattle.apron_rules.specs.declared.parts.AirportParts.{AirportParts}
 use Rattle.desk_asks.specs.declared.asks.Entry.{Entry}
 use Rattle.apron_check.specs.declared.files.AirportFiles.{AirportFiles}
-use Rattle.apron_check.specs.declared.faults.FilesFault.TheVariants as faults
-use Rattle.apron_run.specs.Journal.{NoJournal, OpensTo}
+use Rattle.apron_run.specs.Journal.{WithJournal}
 use Rattle.apron_run.specs.World.{Untouched, World}
 use Rattle.apron_run.specs.declared.end.End.{End}
 use Rattle.apron_run.specs.declared.end.End.TheVariants as ended
 
--- what the word does at these files, by the texts that answer what is asked of an airport and a
--- history: such a text of the history in their journal is printed, or memory has run out
-abbrev pub AtPlan : (AirportParts → List Entry → List ℕ → Type 0) → AirportFiles → World → World
-    → End → Type 0
-AtPlan Answers files before after (ended.Printed text) = Untouched before after
-    × (opened : List Entry)
-    × OpensTo files before.disk opened
-    × Answers files.airport opened text
-AtPlan Answers files before after (ended.Faulty faults.Memory) = Untouched before after
-    × (opened : List Entry)
-    × OpensTo files before.disk opened
-AtPlan Answers files before after (ended.Unusable why) = NoJournal files why before after
-AtPlan Answers files before after end = ⊥
+-- by the texts that answer what is asked of an airport and a history
+module _ (Answers : AirportParts → List Entry → List ℕ → Type 0) where
+  -- such a text of the opened history is printed, or memory has run out
+  abbrev pub PrintsText : AirportFiles → List Entry → World → World → End → Type 0
+  PrintsText files opened before after (ended.Printed text) = Untouched before after
+      × Answers files.airport opened text
+  PrintsText files opened before after ended.Memory = Untouched before after
+  PrintsText files opened before after end = ⊥
+
+  -- what the word does at these files
+  abbrev pub AtPlan : AirportFiles → World → World → End → Type 0
+  AtPlan = WithJournal PrintsText

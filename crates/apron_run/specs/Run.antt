@@ -23,26 +23,26 @@ use Rattle.apron_run.specs.declared.end.End.TheVariants as ended
 module _ (feeds : FeedTexts) where
   -- what is done for what the words ask for, from one moment to the one at which no more than the
   -- last line is to be written, and how it ends: one line for each
-  abbrev pub Does : Subcommand → World → World → End → Type 0
-  Does (desk airport types) = WithFiles (AtDesk feeds) airport types
-  Does (init airport types) = WithFiles AtInit airport types
-  Does (check airport types) =
+  abbrev pub DoesAsked : Subcommand → World → World → End → Type 0
+  DoesAsked (desk airport types) = WithFiles (AtDesk feeds) airport types
+  DoesAsked (init airport types) = WithFiles AtInit airport types
+  DoesAsked (check airport types) =
       WithFiles (λ files. EndsUntouched (ended.Printed (counts_line files.airport))) airport types
-  Does (chart airport types day) =
+  DoesAsked (chart airport types day) =
       WithFiles (λ files. AtDay files (number_within day 1 files.airport.days)) airport types
-  Does (import airport types season) = WithFiles (AtSeason season) airport types
-  Does (export airport types) = WithFiles (AtPlan IsSeason) airport types
-  Does (upgrade airport types) = WithFiles AtUpgrade airport types
-  Does (propose airport types name draft) = WithFiles (AtPlan (IsProposed name draft)) airport types
-  Does (make visits) = AtMake visits
-  Does help = EndsUntouched (ended.Printed help_text)
-  Does version = EndsUntouched (ended.Printed version_text)
-  Does faulty = EndsUntouched ended.Unasked
+  DoesAsked (import airport types season) = WithFiles (AtSeason season) airport types
+  DoesAsked (export airport types) = WithFiles (AtPlan IsSeason) airport types
+  DoesAsked (upgrade airport types) = WithFiles AtUpgrade airport types
+  DoesAsked (propose airport types name draft) = WithFiles (AtPlan (IsProposed name draft)) airport types
+  DoesAsked (make visits) = AtMake visits
+  DoesAsked help = EndsUntouched (ended.Printed help_text)
+  DoesAsked version = EndsUntouched (ended.Printed version_text)
+  DoesAsked faulty = EndsUntouched ended.Unasked
 
   -- What the program does for what is asked of it, what a crash in the run or after it may leave,
   -- the line at its end, and the status of its number.
   abbrev pub RunsAs : Subcommand → World → World → ℕ → Type 0
-  RunsAs asked = EndsAs (Does asked)
+  RunsAs asked = EndsAs (DoesAsked asked)
 
 -- what isn't used stays as it is
 abbrev pub KeptUnless : {E : Type 0} → Bool → E → E → Type 0

@@ -34,10 +34,12 @@ pub enum End {
     Attended(ServeEnd),
     /// Visits were imported, to this end.
     Imported(Imported),
-    /// The two files make no airport, or memory ran out.
+    /// The two files make no airport, or no memory was there to read them.
     Faulty(FilesFault),
     /// There is no journal to work on.
     Unusable(Unusable),
+    /// Memory ran out.
+    Memory,
     /// Nothing that there is was asked for.
     Unasked,
 }
@@ -68,6 +70,7 @@ fn put_line<W: Sink>(sink: &mut W, end: &End) -> Result<(), Failed>
         End::Imported(imported) => put_imported(sink, imported),
         End::Faulty(fault) => put_fault(sink, fault),
         End::Unusable(why) => put_unusable(sink, why),
+        End::Memory => put_fault(sink, &FilesFault::Memory),
         End::Unasked => sink.put(usage()),
     }
 }
@@ -85,6 +88,7 @@ fn status_of(end: &End) -> Status
         End::Faulty(fault) => status_of_fault(fault),
         End::Unusable(Unusable::Journal(fault)) => status_of_journal(*fault),
         End::Unusable(Unusable::Entries(fault)) => status_of_entries(*fault),
+        End::Memory => Status::Memory,
         End::Unasked => Status::Usage,
     }
 }

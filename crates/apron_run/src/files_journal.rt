@@ -31,8 +31,8 @@ impl OfFiles for Brand {
 }
 
 /// A journal of these files: if its disk tells what it reads as, their digests are in its header. A
-/// crash at any moment leaves a front of its entries, which never gets shorter; one more that is
-/// none of them only if a call of the disk has failed. Contracts see the journal.
+/// crash at any moment leaves a front of its entries, which never gets shorter. Only if a call of
+/// the disk has failed may one more follow that is none of them. Contracts see the journal.
 #[derive(Drop)]
 pub struct FilesJournal<N: OfFiles, D: Disk> {
     journal: Journal<D>,

@@ -27,7 +27,7 @@ pub enum Access {
 }
 
 /// Opens the journal of these files on the disk, and the board of its entries. At `Err` comes why
-/// there is none to work on, and the disk, on which nothing was written.
+/// there is none to work on, and the disk, which reads as before.
 pub fn open_board<'f, N: OfFiles, D: Disk>(
     alloc: Global,
     files: &'f AirportFiles,

@@ -1,5 +1,5 @@
-//! The program's one call: it reads the shelf's files, the source and the disk, does what the words
-//! of the command line ask for, and writes to the sink and the disk. Each word has a module of its
+//! All words of the command line but `serve`: it reads the shelf's files, the source and the disk,
+//! does what the words ask for, and writes to the sink and the disk. Each word has a module of its
 //! own. It knows nothing of the system: files, streams and disks are those of its traits.
 #![tactic(auto)]
 
@@ -31,6 +31,7 @@ pub use files_journal::{FilesJournal, OfFiles};
 pub use journal::{Access, close_board, open_board, open_watched};
 pub use laws::{ends_that_never_fail_tell_no_fault, second_imports_add_nothing};
 pub use program::{run, run_with};
+pub use season::MAX_SEASON;
 pub use status::Status;
 pub use unusable::Unusable;
-pub use words::{is_plain_number, plain_number};
+pub use words::{is_plain_number, number_within, plain_number};

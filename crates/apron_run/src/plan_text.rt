@@ -12,7 +12,7 @@ use crate::journal::{Access, close_board, open_board};
 use crate::print::{Kind, Text};
 use crate::same_disk::{Named, SameDisk};
 use apron_base::{Keeper, Listed, Memory};
-use apron_check::{AirportFiles, FilesFault};
+use apron_check::AirportFiles;
 use apron_rules::Airport;
 use history_core::Board;
 use journal_disk::Disk;
@@ -109,6 +109,6 @@ fn text_of_board<N: OfFiles, T: PlanText, D: Disk>(
     let disk = close_board(board);
     match made {
         Ok(text) => (End::Printed(Text(Kind::Made(text))), disk),
-        Err(Memory) => (End::Faulty(FilesFault::Memory), disk),
+        Err(Memory) => (End::Memory, disk),
     }
 }

@@ -1,4 +1,4 @@
-// The program's one call.
+// What the program does with all words but `serve`.
 ghost use Rattle.std.specs.Prelude.{◌≡◌, ◌⊎◌, ℕ, List, [], Ok, false};
 ghost use Rattle.apron_base.specs.Shelf.{ShelfState};
 ghost use Rattle.apron_check.specs.Files.{FindsFiles};
@@ -7,7 +7,7 @@ ghost use Rattle.watch_list.specs.Watches.{shows};
 ghost use Rattle.apron_run.specs.Causes.{FaultsHaveCause};
 ghost use Rattle.apron_run.specs.Complete.{IsRunComplete};
 ghost use Rattle.apron_run.specs.End.{status_of};
-ghost use Rattle.apron_run.specs.Run.{Does, KeptUnless, RunsAs};
+ghost use Rattle.apron_run.specs.Run.{DoesAsked, KeptUnless, RunsAs};
 ghost use Rattle.apron_run.specs.Statuses.{exit_code};
 ghost use Rattle.apron_run.specs.Words.{chart as chart_word, faulty, subcommand_of, uses_disk, uses_shelf, uses_source};
 ghost use Rattle.apron_run.specs.WordsShown.{subcommand_at};
@@ -27,7 +27,7 @@ use crate::upgrade::upgrade_journal;
 use crate::words::{Asked, Subcommand, number_within, subcommand_of};
 use crate::{End, Status};
 use apron_base::{Memory, Shelf, Sink, Source, Word};
-use apron_check::{AirportFiles, FilesFault, airport_of};
+use apron_check::{AirportFiles, airport_of};
 use journal_disk::Disk;
 use std::alloc::Global;
 use watch_list::{NoteTest, Shown, Stated, Watches};
@@ -147,7 +147,7 @@ fn run_words<F: Shelf, S: Source, W: Sink, D: Disk, R: Stated, T: NoteTest>(
     sink: &mut W,
     disk: &mut D,
 ) -> End
-    ensures does { Does (feed_texts R.tells watches.now) (subcommand_of words.now)
+    ensures does { DoesAsked (feed_texts R.tells watches.now) (subcommand_of words.now)
         (world_at (F.state shelf.old) (S.state source.old) (W.state sink.old) (D.state disk.old))
         (world_at (F.state shelf.new) (S.state source.new) (W.state sink.new) (D.state disk.new))
         result }
@@ -166,7 +166,7 @@ fn run_words<F: Shelf, S: Source, W: Sink, D: Disk, R: Stated, T: NoteTest>(
         }
         Subcommand::Make(visits) => match day_line(alloc, visits) {
             Ok(line) => End::Printed(Text(Kind::Made(line))),
-            Err(Memory) => End::Faulty(FilesFault::Memory),
+            Err(Memory) => End::Memory,
         },
         Subcommand::Help => End::Printed(Text(Kind::Help)),
         Subcommand::Version => End::Printed(Text(Kind::Version)),
@@ -187,7 +187,7 @@ fn run_at<F: Shelf, S: Source, W: Sink, D: Disk, R: Stated, T: NoteTest>(
 ) -> End
     ensures does { (before : ShelfState) (airport types : List ℕ)
         → FindsFiles before (F.state shelf.old) airport types (Ok files)
-        → Does (feed_texts R.tells watches.now) (subcommand_at airport types asked.entry)
+        → DoesAsked (feed_texts R.tells watches.now) (subcommand_at airport types asked.entry)
         (world_at before (S.state source.old) (W.state sink.old) (D.state disk.old))
         (world_at (F.state shelf.new) (S.state source.new) (W.state sink.new) (D.state disk.new))
         result }

@@ -18,7 +18,7 @@ use std::alloc::Global;
 use visit_book::{NewVisit, new_of};
 
 /// The most bytes of a season file: 16 MiB.
-pub(crate) const MAX_SEASON: u32 = 16_777_216;
+pub const MAX_SEASON: u32 = 16_777_216;
 
 /// Asks to add the visits of the season file of this name to the board, each at most once and in
 /// order, with the board's next call numbers, up to the first that is neither added nor there

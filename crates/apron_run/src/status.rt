@@ -17,7 +17,7 @@ pub enum Status {
     ReadFault,
     /// The sink failed.
     WriteFault,
-    /// The disk failed before there was a journal to work on.
+    /// The disk failed before there was a journal to work on, or at an entry of an import.
     DiskFault,
     /// What the disk reads as is no journal of the airport, or no history of it.
     JournalFault,

@@ -184,7 +184,7 @@ pub fn plain_number(text: &[u8], first: u32, last: u32) -> Option<u32>
 
 /// The number from the first to the last that the digits write, if they write one: 1 to 10 digits.
 #[tactic(auto, unfolding(crate::specs::Words::value_of))]
-pub(crate) fn number_within(text: &[u8], first: u32, last: u32) -> Option<u32>
+pub fn number_within(text: &[u8], first: u32, last: u32) -> Option<u32>
     ensures is { result ≡ number_within text.now first last }
     ensures value { IfSome result (λ number. number ≡ value_of text.now) }
     ensures first { IfSome result (λ number. first ≤ number) }

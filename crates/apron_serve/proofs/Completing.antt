@@ -9,7 +9,7 @@ use Rattle.apron_run.specs.End.{status_of}
 use Rattle.apron_run.specs.Statuses.{exit_code}
 use Rattle.apron_run.specs.World.{World}
 use Rattle.apron_run.specs.declared.end.End.{End}
-use Rattle.apron_run.specs.declared.end.End.TheVariants.{Attended, Unusable as Unworkable}
+use Rattle.apron_run.specs.declared.end.End.TheVariants.{Attended, Memory as Wanting, Unusable as Unworkable}
 use Rattle.apron_run.specs.declared.end.ServeEnd.TheVariants as served
 use Rattle.apron_run.specs.declared.status.Status.TheVariants.{ListenerFault}
 use Rattle.apron_run.proofs.Complete.{ends_well}
@@ -29,8 +29,9 @@ module _ {In Out : Type 0} (service : Service In Out) (from to : Listening In Ou
     at_well task (Attended served.Done) all at = inl refl
     at_well task (Attended served.ListenerFault) all at = absurd (all refl)
     at_well task (Attended served.Missed) all at = inr refl
+    at_well task Wanting all at = inr refl
     at_well task (Unworkable why) all at = inr (unopened_wants made before.disk after.disk history has why at.uses still)
-    at_well task so all at = absurd at
+    at_well task so all at = absurd at.2
 
     -- what was done if the plan has the day
     day_well : (connections : ℕ) (day : Option ℕ) → IsSome day → ServesDay service from to connections made day before after end → Well (status_of end)

@@ -5,10 +5,9 @@ use Rattle.apron_base.specs.Keeper.{KeeperState}
 use Rattle.apron_base.specs.Machine.{MachineState}
 use Rattle.apron_rules.specs.declared.parts.AirportParts.{AirportParts}
 use Rattle.desk_asks.specs.declared.asks.Entry.{Entry}
-use Rattle.history_core.specs.Board.{BoardHeld, entry_texts, machine_state}
+use Rattle.history_core.specs.Board.{BoardHeld, machine_state}
 use Rattle.history_core.specs.History.{IsLegal}
 use Rattle.history_core.specs.Opening.{next_after}
-use Rattle.history_core.specs.declared.opening.OpenFault.TheVariants as entries
 use Rattle.history_core.proofs.Legal.{legal_counted}
 use Rattle.journal_disk.specs.Disk.{DiskState, Stays}
 use Rattle.desk_workers.specs.Crew.{ServesBoard, end_of}
@@ -19,16 +18,15 @@ use Rattle.screen_server.specs.Shown.{ShowsFrom}
 use Rattle.screen_server.specs.declared.shown.ShownEnd.{ShownEnd}
 use Rattle.screen_server.specs.declared.shown.Task.{Task}
 use Rattle.apron_check.specs.declared.files.AirportFiles.{AirportFiles}
-use Rattle.apron_run.specs.Journal.{KeepsHistory, NoJournal}
+use Rattle.apron_run.specs.Journal.{KeepsHistory}
 use Rattle.apron_run.specs.Opened.{IsOpened}
 use Rattle.apron_run.specs.Asking.{opened_board}
 use Rattle.apron_run.specs.Survival.{Survives}
 use Rattle.apron_run.specs.World.{World}
 use Rattle.apron_run.specs.declared.end.End.TheVariants as ended
 use Rattle.apron_run.specs.declared.end.ServeEnd.{ServeEnd}
-use Rattle.apron_run.specs.declared.unusable.Unusable.TheVariants.{Entries}
 use Rattle.apron_run.proofs.Serving.{all_sound}
-use Rattle.apron_serve.specs.Board.{Listening, Service, served_end}
+use Rattle.apron_serve.specs.Board.{AtServe, Listening, Service, served_end}
 use Rattle.apron_serve.specs.Noted.{IsNoteOf, MeetsNoted, has_missed}
 
 -- after a board was opened no entry is at risk
@@ -92,41 +90,38 @@ desks_serve {E = E} service tells task from to files before closed board hall me
     (note_is board.history left.history (length from.screens) hall.writers _ many (begun ∙ opened.next) (legal_counted left.airport left.history own) refl) in
     record {
       noted = (noted, refl);
-      meets = record {
-        shelf = refl;
-        source = refl;
-        sink = refl;
-        uses = record {
-          opened = board.history;
-          opens = opened.opens;
-          board = machine_state tells left;
-          desks = ends.desks;
-          serves = subst (λ (m : MachineState Entry AirportParts).
-              ServesBoard service.states (fed_sessions service.feeds) task.connections (record { listeners = from.listeners; board = m }) (record { listeners = to.listeners; board = machine_state tells left }) ends.desks) fresh serves;
-          looks = ends.screens;
-          shows = subst (λ (r : Result ShownEnd E).
-              IfOk r (λ ended. ShowsFrom service.states (record { airport = files.airport; history = board.history }) task from.screens (record { listeners = to.screens; history = left.history; end = ended.screens }))) is show;
-          missed = has_missed note;
-          some = missed_some board.history left.history (length from.screens) note noted;
-          end_is = end_is;
-          faults = counted;
-          keeps = subst (λ (a : AirportParts).
-              KeepsHistory (record { airport = a; digests = files.digests }) left.history left.at_risk closed) same keeps;
-          survives = survives;
-          sound = all_sound files.airport left.history legal;
-        };
-      };
+      meets = (
+        board.history,
+        opened.opens,
+        record {
+          shelf = refl;
+          source = refl;
+          sink = refl;
+          uses = record {
+            board = machine_state tells left;
+            desks = ends.desks;
+            serves = subst (λ (m : MachineState Entry AirportParts).
+                ServesBoard service.states (fed_sessions service.feeds) task.connections (record { listeners = from.listeners; board = m }) (record { listeners = to.listeners; board = machine_state tells left }) ends.desks) fresh serves;
+            looks = ends.screens;
+            shows = subst (λ (r : Result ShownEnd E).
+                IfOk r (λ ended. ShowsFrom service.states (record { airport = files.airport; history = board.history }) task from.screens (record { listeners = to.screens; history = left.history; end = ended.screens }))) is show;
+            missed = has_missed note;
+            some = missed_some board.history left.history (length from.screens) note noted;
+            end_is = end_is;
+            faults = counted;
+            keeps = subst (λ (a : AirportParts).
+                KeepsHistory (record { airport = a; digests = files.digests }) left.history left.at_risk closed) same keeps;
+            survives = survives;
+            sound = all_sound files.airport left.history legal;
+          };
+        },
+      );
     }
 
--- there is no memory to serve at a board that was opened, and nothing was written
-pub turns_want_memory : {K : Type 0} (tells : K → KeeperState) (files : AirportFiles) (before : World) (closed : DiskState) (board : BoardHeld K)
-    → IsOpened tells files before.disk board
+-- there is no memory to serve at a board that was opened, and the disk reads as before
+pub turns_want_memory : {In Out K : Type 0} (service : Service In Out) (tells : K → KeeperState) (task : Task) (from to : Listening In Out) (files : AirportFiles) (before : World) (closed : DiskState)
+    (board : BoardHeld K) → IsOpened tells files before.disk board
     → Stays before.disk closed → closed.faults ≡ (tells board.keeper).faults
-    → NoJournal files (Entries entries.Memory) before (record before { disk = closed })
-turns_want_memory tells files before closed board opened stays counted =
-    let opens = opened.opens in record {
-      shelf = refl;
-      source = refl;
-      sink = refl;
-      uses = record { stays = stays; cause = (entry_texts board.history, opens.entries, counted ∙ opened.faults, tt) };
-    }
+    → AtServe service task from to files before (record before { disk = closed }) ended.Memory
+turns_want_memory service tells task from to files before closed board opened stays counted =
+    (board.history, opened.opens, record { shelf = refl; source = refl; sink = refl; uses = record { stays = stays; faults = counted ∙ opened.faults } })

@@ -20,7 +20,7 @@ use Rattle.apron_run.specs.Run.{KeptUnless}
 use Rattle.apron_run.specs.Statuses.{exit_code}
 use Rattle.apron_run.specs.World.{World}
 use Rattle.apron_run.specs.declared.end.End.{End}
-use Rattle.apron_run.specs.declared.end.End.TheVariants.{Attended, Faulty, Unusable as Unworkable, Unasked}
+use Rattle.apron_run.specs.declared.end.End.TheVariants.{Attended, Faulty, Memory as Wanting, Unusable as Unworkable, Unasked}
 use Rattle.apron_run.specs.declared.end.ServeEnd.{ServeEnd}
 use Rattle.apron_run.specs.declared.status.Status.TheVariants.{Done, ListenerFault, Memory, Usage}
 use Rattle.apron_run.proofs.Ends.{told_by}
@@ -93,11 +93,12 @@ module _ {In Out : Type 0} (service : Service In Out) (from to : Listening In Ou
   many_at : (task : Task) (files : AirportFiles) (before after : World) (end : End) → AtServe service task from to files before after end
       → KeptUnless (was_served end) from to → length to.screens ≡ length from.screens
   many_at task files before after (Attended served) at kept =
-      let shows = at.uses.shows.shows in
+      let shows = at.2.uses.shows.shows in
       (ap length shows.ended ∙ length-map shows.workers (λ (worker : ScreenWorker In Out). worker.after.listener))
       ∙ sym (ap length shows.begun ∙ length-map shows.workers (λ (worker : ScreenWorker In Out). worker.before.listener))
+  many_at task files before after Wanting at kept = ap (λ (l : Listening In Out). length l.screens) kept
   many_at task files before after (Unworkable why) at kept = ap (λ (l : Listening In Out). length l.screens) kept
-  many_at task files before after end at kept = absurd at
+  many_at task files before after end at kept = absurd at.2
 
   pub many : (asked : Option Order) (before after : World) (end : End) → DoesServe service from to asked before after end → length to.screens ≡ length from.screens
   many None before after end ((ended, untouched), kept) =
@@ -190,13 +191,14 @@ module _ {In Out : Type 0} (service : Service In Out) (from to : Listening In Ou
         → AtServe service (record { connections = order.connections; day = day }) from to files before after end → KeptUnless (was_served end) from to
         → Knows (Some order) end
     at_known files day before after (Attended served) at kept =
-        let desks = at.uses in
+        let desks = at.2.uses in
         subst (λ (so : ServeEnd). Knows (Some order) (Attended so)) (sym desks.end_is) (attended desks.desks desks.looks desks.missed
         (desks_ended service.states (fed_sessions service.feeds) order.connections _ _ desks.desks desks.serves)
         (screens_ended service.states order.connections _ _ desks.looks desks.shows.shows) desks.some)
+    at_known files day before after Wanting at kept = early Wanting refl refl refl kept
     at_known files day before after (Unworkable why) at kept =
         early (Unworkable why) refl refl (unworkable_used is_early refl refl refl files before.disk after.disk why (let not = at.uses in not.cause)) kept
-    at_known files day before after end at kept = absurd at
+    at_known files day before after end at kept = absurd at.2
 
   known : (asked : Option Order) (before after : World) (end : End) → IfSome asked (λ order. (1 ≤ order.connections) × (1 ≤ length from.listeners))
       → DoesServe service from to asked before after end → Knows asked end

@@ -5,11 +5,11 @@ use Rattle.apron_base.specs.Histories.{Every}
 use Rattle.apron_base.specs.Listener.{ListenerState}
 use Rattle.turn_board.proofs.Totals.{every_more}
 use Rattle.desk_http.specs.Session.{SessionKind}
-use Rattle.desk_workers.specs.Crew.{CrewState, ServesBoard, Worker, WorksAt, end_of}
-use Rattle.desk_workers.specs.Work.{EndStates, IsEndAt, is_listener_fault}
+use Rattle.desk_workers.specs.Crew.{CrewState, DeskWorker, ServesBoard, WorksAt, end_of}
+use Rattle.desk_workers.specs.Work.{EndStates, IsEndAt, Works, is_listener_fault}
 use Rattle.desk_workers.specs.declared.worker.WorkEnd.{WorkEnd}
 use Rattle.desk_workers.specs.declared.worker.WorkEnd.TheVariants.{Done, ListenerFault}
-use Rattle.screen_server.specs.Looks.{ShowsOn}
+use Rattle.screen_server.specs.Looks.{HasLook}
 use Rattle.screen_server.specs.Walls.{ScreenWorker, ShowsAll, WallsState}
 use Rattle.apron_serve.specs.Serve.{HaveFinished, SomeFailed}
 
@@ -106,7 +106,7 @@ pub desks_ended : {In Out Fixed : Type 0} (states : EndStates In Out) (kinds : F
     → ServesBoard states kinds asked before after end
     → Finished asked before.listeners after.listeners end
 desks_ended {In = In} {Out = Out} states kinds asked before after end serves =
-    all_ended asked (λ (worker : Worker In Out). worker.before.listener) (λ (worker : Worker In Out). worker.after.listener) (λ (worker : Worker In Out). worker.end)
+    all_ended asked (λ (worker : DeskWorker In Out). worker.before.listener) (λ (worker : DeskWorker In Out). worker.after.listener) (λ (worker : DeskWorker In Out). worker.end)
     serves.workers
     (every_more (WorksAt states kinds asked before.board after.board) _ (λ worker at.
     let works = at.works in let finishes = works.serves.finishes in
@@ -120,8 +120,8 @@ pub screens_ended : {In Out : Type 0} (states : EndStates In Out) (asked : ℕ) 
 screens_ended {In = In} {Out = Out} states asked before after end shows =
     all_ended asked (λ (worker : ScreenWorker In Out). worker.before.listener) (λ (worker : ScreenWorker In Out). worker.after.listener)
     (λ (worker : ScreenWorker In Out). worker.end) shows.workers
-    (every_more (λ (worker : ScreenWorker In Out). ShowsOn states asked worker.before worker.after worker.end) _ (λ worker on.
-    let finishes = on.shows.finishes in
+    (every_more (λ (worker : ScreenWorker In Out). Works (HasLook states) asked worker.before worker.after worker.end) _ (λ worker on.
+    let finishes = on.serves.finishes in
     record { count = length on.connections; ended = finishes.ended; is = on.count; faults = finishes.faults }) shows.workers shows.work)
     before.listeners after.listeners end shows.begun shows.ended shows.end_is
 

@@ -9,7 +9,7 @@ use Rattle.apron_run.specs.Run.{KeptUnless}
 use Rattle.apron_run.specs.Statuses.{exit_code}
 use Rattle.apron_run.specs.World.{World}
 use Rattle.apron_run.specs.declared.end.End.{End}
-use Rattle.apron_run.specs.declared.end.End.TheVariants.{Attended, Unusable as Unworkable}
+use Rattle.apron_run.specs.declared.end.End.TheVariants.{Attended, Memory as Wanting, Unusable as Unworkable}
 use Rattle.apron_run.specs.declared.end.ServeEnd.TheVariants as end
 use Rattle.apron_run.proofs.Kept.{unworkable_used}
 use Rattle.apron_serve.specs.Board.{AtServe, Listening, Service}
@@ -34,6 +34,7 @@ pub comes : {In Out : Type 0} (service : Service In Out) (task : Task) (from to 
 comes service task from to files before after (Attended end.Done) at = refl
 comes service task from to files before after (Attended end.ListenerFault) at = refl
 comes service task from to files before after (Attended end.Missed) at = refl
+comes service task from to files before after Wanting at = refl
 comes service task from to files before after (Unworkable why) at =
     unworkable_used (λ code. not (serve_ends_before_journal code)) refl refl refl files before.disk after.disk why (let not_opened = at.uses in not_opened.cause)
-comes service task from to files before after end at = absurd at
+comes service task from to files before after end at = absurd at.2

@@ -15,9 +15,9 @@ use Rattle.screen_server.specs.Shown.{ShowsFrom}
 use Rattle.screen_server.specs.declared.shown.Task.{Task}
 use Rattle.apron_check.specs.declared.files.AirportFiles.{AirportFiles}
 use Rattle.apron_run.specs.Asking.{opened_board}
-use Rattle.apron_run.specs.Journal.{KeepsHistory, NoJournal, OpensTo}
+use Rattle.apron_run.specs.Journal.{KeepsHistory, WithJournal}
 use Rattle.apron_run.specs.Survival.{Survives}
-use Rattle.apron_run.specs.World.{OnDisk, World}
+use Rattle.apron_run.specs.World.{OnDisk, Untouched, World}
 use Rattle.apron_run.specs.declared.end.End.{End}
 use Rattle.apron_run.specs.declared.end.End.TheVariants as ended
 use Rattle.apron_run.specs.declared.end.ServeEnd.{ServeEnd}
@@ -40,8 +40,8 @@ pub record Listening (In Out : Type 0) : Type 0 where
   pub screens : List (ListenerState In Out)
 
 module _ {In Out : Type 0} (service : Service In Out) (task : Task)
-    (from to : Listening In Out) (files : AirportFiles) where
-  -- The headline for many desks. The journal of the files opened to a legal history. Each
+    (from to : Listening In Out) where
+  -- The headline for many desks, at the legal history that the journal opened to. Each
   -- listener's connections were served one after the other by a worker of its own, whose port had
   -- seen that history. Each request was answered as for a desk alone, at the whole history that its
   -- turn found. At the end the history is legal, begins with the opened one, and is the longest
@@ -56,9 +56,8 @@ module _ {In Out : Type 0} (service : Service In Out) (task : Task)
   -- are screens, a writer of theirs may have missed the last version. Serving ended as the first
   -- worker in order that stopped early, those of the desks before those of the screens; if none
   -- did, by whether a version was missed.
-  pub record ServesDesks (before after : DiskState) (served : ServeEnd) : Type 0 where
-    pub opened : List Entry
-    pub opens : OpensTo files before opened
+  pub record ServesDesks (files : AirportFiles) (opened : List Entry) (before after : DiskState)
+      (served : ServeEnd) : Type 0 where
     pub board : MachineState Entry AirportParts
     pub desks : WorkEnd
     pub serves : ServesBoard service.states (fed_sessions service.feeds) task.connections
@@ -81,10 +80,13 @@ module _ {In Out : Type 0} (service : Service In Out) (task : Task)
         → board.history ≡ front ++ back
         → IsSoundPlan (replay files.airport front)
 
-  -- what is done at these files: desks and screens are served at their journal; or there is none to
-  -- work on, or no memory for the turns at it
-  abbrev pub AtServe : World → World → End → Type 0
-  AtServe before after (ended.Attended served) =
-      OnDisk (λ old new. ServesDesks old new served) before after
-  AtServe before after (ended.Unusable why) = NoJournal files why before after
-  AtServe before after end = ⊥
+  -- desks and screens are served at the opened history, or there is no memory for the turns at it
+  abbrev pub ServesBoth : AirportFiles → List Entry → World → World → End → Type 0
+  ServesBoth files opened before after (ended.Attended served) =
+      OnDisk (λ old new. ServesDesks files opened old new served) before after
+  ServesBoth files opened before after ended.Memory = Untouched before after
+  ServesBoth files opened before after end = ⊥
+
+  -- what is done at these files: desks and screens are served at their journal
+  abbrev pub AtServe : AirportFiles → World → World → End → Type 0
+  AtServe = WithJournal ServesBoth

@@ -31,8 +31,8 @@ module _ {In Out : Type 0} (service : Service In Out) (task : Task) (from to : L
   abbrev pub IsNoteAt : (end : End) → AtServe service task from to files before after end
       → Option HallNoteState → Type 0
   IsNoteAt (ended.Attended served) desks note =
-      IsNoteOf desks.uses.opened desks.uses.board.history (length from.screens) note
-      × (desks.uses.missed ≡ has_missed note)
+      IsNoteOf desks.0 desks.2.uses.board.history (length from.screens) note
+      × (desks.2.uses.missed ≡ has_missed note)
   IsNoteAt end unserved note = note ≡ None
 
   -- what was done at these files, and the note of the hall

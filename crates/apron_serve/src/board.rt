@@ -13,11 +13,10 @@ ghost use Rattle.apron_serve.specs.Serve.{was_served};
 
 use apron_base::Memory;
 use apron_check::AirportFiles;
-use apron_run::{End, OfFiles, ServeEnd, Unusable, close_board, open_watched};
-use desk_workers::{WorkEnd, first_end};
-use history_core::OpenFault;
+use apron_run::{End, OfFiles, ServeEnd, close_board, open_watched};
+use desk_workers::{WorkEnd, Workplace, first_end};
 use journal_disk::Disk;
-use screen_server::{ShownEnd, Task, Wall, serve_watched};
+use screen_server::{ShownEnd, Task, serve_watched};
 use shown_board::HallNote;
 use std::alloc::Global;
 use std::sync::Wait;
@@ -27,12 +26,12 @@ use watch_list::{NoteTest, Stated, Watches};
 /// Opens the journal of these files on the disk, and serves the connections of the listeners of
 /// desks at its board, and those of the listeners of screens beside them. It gives the disk back,
 /// and what the hall of the screens noted, if there are any. If there is no journal to work on, or
-/// no memory for the screens or the turns at it, no listener is called, and nothing is written on
-/// the disk.
+/// no memory for the screens or the turns at it, no listener is called, and the disk reads as
+/// before.
 pub(crate) fn serve_desks<
     'a,
     N: OfFiles + Send,
-    L: Wall + Send,
+    L: Workplace + Send,
     D: Disk + Send,
     R: Stated + Sync + 'a,
     T: NoteTest + Sync + 'a,
@@ -76,7 +75,7 @@ pub(crate) fn serve_desks<
             )
         }
         Err(Memory) => (
-            End::Unusable(Unusable::Entries(OpenFault::Memory)),
+            End::Memory,
             close_board(hall.into_board().into_board()),
             None,
         ),

@@ -19,8 +19,9 @@ use crate::words::{Order, order_of};
 use apron_base::{Shelf, Sink, Word};
 use apron_check::{AirportFiles, airport_of};
 use apron_run::{End, Status, tell_end};
+use desk_workers::Workplace;
 use journal_disk::Disk;
-use screen_server::{Task, Wall};
+use screen_server::Task;
 use std::alloc::Global;
 use std::marker::Brand;
 use std::sync::Wait;
@@ -47,7 +48,7 @@ use watch_list::{NoteTest, Shown, Stated, Watches};
 /// | 8 | the disk has no journal of these files, or no history of their airport, which is printed |
 /// | 11 | a listener failed, which is printed when all workers have ended |
 /// | 12 | memory has run out before any connection is taken, which is printed |
-pub fn serve<F: Shelf, L: Wall + Send, W: Sink, D: Disk + Send, Rt: Wait + Threads + Sync>(
+pub fn serve<F: Shelf, L: Workplace + Send, W: Sink, D: Disk + Send, Rt: Wait + Threads + Sync>(
     rt: &Rt,
     alloc: Global,
     words: &[Word],
@@ -90,7 +91,7 @@ pub fn serve<F: Shelf, L: Wall + Send, W: Sink, D: Disk + Send, Rt: Wait + Threa
 /// The same with these watches, whose feeds each desk can ask for.
 pub fn serve_with<
     F: Shelf,
-    L: Wall + Send,
+    L: Workplace + Send,
     W: Sink,
     D: Disk + Send,
     R: Stated + Sync,
@@ -139,7 +140,7 @@ pub fn serve_with<
 
 /// The same with screens beside the desks.
 ///
-/// `serve A T N screen DAY` takes `N` connections of each screen's listener too, 1 to 8 of them,
+/// `serve A T N screen DAY` also takes `N` connections of the listener of each of 1 to 8 screens,
 /// each by a worker in a thread of its own. It reads nothing from a connection. It puts the chart
 /// of this day, counted from 1, of the plan that the screen then sees, and finishes the connection.
 /// Without `screen DAY` there may be no such listener.
@@ -153,7 +154,7 @@ pub fn serve_with<
 /// | 12 | all connections were finished, but memory ran out for a screen's last version |
 pub fn serve_all<
     F: Shelf,
-    L: Wall + Send,
+    L: Workplace + Send,
     W: Sink,
     D: Disk + Send,
     R: Stated + Sync,
@@ -220,7 +221,7 @@ pub fn serve_all<
 // that is ordered.
 fn serve_order<
     F: Shelf,
-    L: Wall + Send,
+    L: Workplace + Send,
     D: Disk + Send,
     R: Stated + Sync,
     T: NoteTest + Sync,
@@ -274,7 +275,7 @@ fn serve_order<
 
 // Serves desks and screens at the journal of these files.
 fn serve_journal<
-    L: Wall + Send,
+    L: Workplace + Send,
     D: Disk + Send,
     R: Stated + Sync,
     T: NoteTest + Sync,

@@ -4,12 +4,12 @@
 ghost use Rattle.std.specs.Prelude.{◌≡◌, ◌<◌, ◌≤◌, ℕ, true, IfSome, [], ◌∷◌, is_some};
 ghost use Rattle.std.specs.Option.{option_copied, option_map};
 ghost use Rattle.apron_rules.specs.declared.parts.AirportParts.{AirportParts};
-ghost use Rattle.apron_run.specs.Words.{is_number, number_within, value_of};
+ghost use Rattle.apron_run.specs.Words.{is_number, value_of};
 ghost use Rattle.apron_serve.specs.Orders.{most_connections, most_listeners, most_screens, day_shown, may_have, order_of, order_of_words};
 ghost use Rattle.apron_serve.specs.OrdersShown.{order_shown};
 
-use apron_base::{MAX_DIGITS, Word, number_of};
-use apron_run::{is_plain_number, plain_number};
+use apron_base::Word;
+use apron_run::{is_plain_number, number_within, plain_number};
 
 /// The most connections that each listener takes.
 pub const MAX_CONNECTIONS: u32 = 1_000_000;
@@ -51,20 +51,9 @@ impl<'w> Order<'w> {
             → result ≡ day_shown airport (option_copied self.now.day) }
     {
         match self.day {
-            Some(digits) => day_within(digits.text().as_bytes(), days),
+            Some(digits) => number_within(digits.text().as_bytes(), 1, days),
             None => Some(1),
         }
-    }
-}
-
-// The day from 1 to the last that the digits name, if they name one.
-fn day_within(digits: &[u8], last: u32) -> Option<u32>
-    ensures is { result ≡ number_within digits.now 1 last }
-    ensures day { IfSome result (λ day. (1 ≤ day) × (day ≤ last)) }
-{
-    match number_of(digits, MAX_DIGITS) {
-        Some(day) if 1 <= day && day <= u64::from(last) => Some(day as u32),
-        _ => None,
     }
 }
 

@@ -16,7 +16,7 @@ use Rattle.history_core.specs.History.{IsLegal, call_of}
 use Rattle.turn_board.specs.Board.{GotTurn, SeatState, Sits, TurnBoardState}
 use Rattle.turn_board.specs.declared.view.Call.{Call}
 use Rattle.desk_http.specs.Ports.{CountsGiven, RisksGiven, ShowsAsk, is_unkept}
-use Rattle.desk_workers.specs.Machines.{AddsAsked, AsksBoard}
+use Rattle.desk_workers.specs.Machines.{AddsAsked, AsksPlainly}
 use Rattle.desk_workers.specs.Seats.{SeatTurn, TellsFaults, call_number, faults_of, latest_at_risk, port_of, put_by}
 use Rattle.desk_workers.proofs.AtRisk.{latest_new, latest_still, put_older, put_own}
 use Rattle.desk_workers.proofs.Faults.{counts_call}
@@ -118,7 +118,7 @@ not_true false h = refl
 module _ {M Fixed : Type 0} (state : M → MachineState Entry Fixed) (airport : Fixed → AirportParts) where
   -- a call that was answered otherwise than by `Spent`
   shows_turn : (board : TurnBoardState Fixed) (before after : SeatState Entry Fixed) (ask : Ask) (answer : Acted) → answer ≢ Spent → Sits board before
-      → AsksBoard state airport before (record { ask = ask; answer = answer }) after
+      → AsksPlainly state airport before (record { ask = ask; answer = answer }) after
       → (given : Given) × (answer ≡ acted_from (airport board.start.fixed) given)
       × SeatTurn (airport board.start.fixed) (port_of (record { board = board; seat = before })) ask given (port_of (record { board = board; seat = after }))
   shows_turn board before after ask answer some sits asks =
@@ -126,7 +126,7 @@ module _ {M Fixed : Type 0} (state : M → MachineState Entry Fixed) (airport : 
 
   -- what a seat shows of an ask
   pub seat_shows : (board : TurnBoardState Fixed) (before after : SeatState Entry Fixed) (ask : Ask) (answer : Acted) → Sits board before
-      → AsksBoard state airport before (record { ask = ask; answer = answer }) after
+      → AsksPlainly state airport before (record { ask = ask; answer = answer }) after
       → ShowsAsk SeatTurn (airport board.start.fixed) (port_of (record { board = board; seat = before })) ask answer (port_of (record { board = board; seat = after }))
   seat_shows board before after ask Spent sits asks = ap (λ (seat : SeatState Entry Fixed). port_of (record { board = board; seat = seat })) (asks.unasked refl)
   seat_shows board before after ask (Replied bytes) sits asks = shows_turn board before after ask (Replied bytes) (λ e. cc) sits asks

@@ -8,7 +8,7 @@ use Rattle.desk_asks.specs.declared.asks.Entry.{Entry}
 use Rattle.history_core.specs.Answer.{ActsLegally}
 use Rattle.history_core.specs.History.{call_of}
 use Rattle.turn_board.specs.Board.{GotTurn, SeatState}
-use Rattle.desk_workers.specs.Machines.{AddsAsked, AsksAt, AsksBoard}
+use Rattle.desk_workers.specs.Machines.{AddsAsked, AsksAt, AsksPlainly}
 
 -- what is at risk by one relation is so by a wider one
 pub risks_wider : (adds others : Entry → Type 0) (failed : Bool) (before after : Standing Entry) → ((entry : Entry) → adds entry → others entry)
@@ -47,7 +47,7 @@ module _ {M Fixed Asks : Type 0} (state : M → MachineState Entry Fixed) (airpo
 
   -- an ask of a machine whose numbers are those of calls
   pub asks_plain : (number : Entry → ℕ) (before after : SeatState Entry Fixed) (answer : Acted) → number ≡ call_of
-      → AsksAt state number adds answers before (record { ask = own; answer = answer }) after → AsksBoard state airport before (record { ask = ask; answer = answer }) after
+      → AsksAt state number adds answers before (record { ask = own; answer = answer }) after → AsksPlainly state airport before (record { ask = ask; answer = answer }) after
   asks_plain number before after answer same asks =
       let calls : AsksAt state call_of adds answers before (record { ask = own; answer = answer }) after =
       subst (λ (n : Entry → ℕ). AsksAt state n adds answers before (record { ask = own; answer = answer }) after) same asks in

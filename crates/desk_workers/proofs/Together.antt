@@ -8,20 +8,23 @@ use Rattle.std.proofs.lemmas.List.Sums.{sum_by-append, sum_by-cons}
 use Rattle.apron_base.specs.Histories.{Every}
 use Rattle.apron_base.specs.Listener.{ListenerState}
 use Rattle.apron_base.specs.Machine.{MachineState}
+use Rattle.apron_rules.specs.declared.parts.AirportParts.{AirportParts}
 use Rattle.desk_asks.specs.declared.asks.Entry.{Entry}
 use Rattle.history_core.specs.History.{IsLegal, call_of}
 use Rattle.turn_board.specs.Board.{Closes, IsPutAtRisk, Meets, OpensTurnBoard, SeatState, TurnBoardState}
 use Rattle.turn_board.specs.Totals.{below, times}
 use Rattle.turn_board.specs.declared.view.Call.{Call}
 use Rattle.turn_board.proofs.Totals.{every_append, every_both, every_front, every_more, every_rest, times_append}
-use Rattle.desk_http.specs.Ports.{IsLater, PortState}
+use Rattle.desk_http.specs.Ports.{IsLater}
 use Rattle.desk_http.specs.Session.{SessionKind}
+use Rattle.desk_http.specs.declared.port.FeedAsk.{FeedAsk}
 use Rattle.desk_workers.specs.declared.worker.WorkEnd.{WorkEnd}
 use Rattle.desk_workers.specs.declared.worker.WorkEnd.TheVariants.{Done, ListenerFault}
-use Rattle.desk_workers.specs.Crew.{CountsTold, HasSeen, IsUnkeptOf, ServesBoard, TellsAtRisk, Worker, WorksAt, crew_calls, crew_faults, end_of}
-use Rattle.desk_workers.specs.Seats.{ServedState, board_and_share, call_number, faults_of, fixed_of, latest_at_risk, port_of}
+use Rattle.desk_workers.specs.Crew.{CountsTold, DeskWorker, HasSeen, IsUnkeptOf, ServesBoard, TellsAtRisk, WorksAt, crew_calls, crew_faults, end_of}
+use Rattle.desk_workers.specs.Seats.{SeatTurn, ServedState, board_and_share, call_number, faults_of, fixed_of, latest_at_risk, port_of}
 use Rattle.desk_workers.specs.Together.{AreCutFrom, AreLater, HasCallOf, MeetsAll, StaysAtRisk, WorkAll, WorkEach, WorkTogether, WorksBeside}
-use Rattle.desk_workers.specs.Work.{EndStates, Works}
+use Rattle.desk_workers.specs.Feeds.{FeedTurns, kinds_at, seat_sessions}
+use Rattle.desk_workers.specs.Work.{Connection, EndStates, HasSession, Works}
 use Rattle.desk_workers.proofs.Any.{any_append, any_here, any_none, any_there}
 use Rattle.desk_workers.proofs.Asking.{every_map}
 use Rattle.desk_workers.proofs.AtRisk.{latest_is}
@@ -56,7 +59,7 @@ ends ListenerFault others more same = refl
 
 module _ {In Out Fixed : Type 0} (states : EndStates In Out) (kind : SessionKind) (asked : ℕ) where
   -- what holds of a worker at a seat holds when that seat has met another
-  beside : (before less mid other after : Held Fixed) → less.seen ≡ before.seen → Meets call_of mid other after → (worker : Worker In Out)
+  beside : (before less mid other after : Held Fixed) → less.seen ≡ before.seen → Meets call_of mid other after → (worker : DeskWorker In Out)
       → WorksBeside states kind asked less mid worker → WorksBeside states kind asked before after worker
   beside before less mid other after same meets worker work =
       let numbers : map call_number after.calls ≡ map call_number mid.calls ++ map call_number other.calls = ap (map call_number) meets.calls ∙ map-append call_number mid.calls other.calls in
@@ -65,10 +68,10 @@ module _ {In Out Fixed : Type 0} (states : EndStates In Out) (kind : SessionKind
         works = work.works;
         seen = record {
           new = work.seen.new ++ more;
-          is = meets.mine.is ∙ (ap (λ (seen : List Entry). seen ++ more) work.seen.is ∙ append_assoc worker.after.port.seen work.seen.new more);
+          is = meets.mine.is ∙ (ap (λ (seen : List Entry). seen ++ more) work.seen.is ∙ append_assoc worker.after.own.seen work.seen.new more);
           above = every_both (λ (call : ℕ). Every (λ (entry : Entry). call < call_of entry) work.seen.new) (λ (call : ℕ). Every (λ (entry : Entry). call < call_of entry) more)
               (λ (call : ℕ). Every (λ (entry : Entry). call < call_of entry) (work.seen.new ++ more)) (λ call a b. every_append (λ (entry : Entry). call < call_of entry) work.seen.new more a b)
-              worker.after.port.calls work.seen.above (work.own more (every_map (λ (call : ℕ). Every (λ (entry : Entry). call < call_of entry) more) mid.calls meets.mine.later));
+              worker.after.own.calls work.seen.above (work.own more (every_map (λ (call : ℕ). Every (λ (entry : Entry). call < call_of entry) more) mid.calls meets.mine.later));
         };
         own = λ entries later. work.own entries (every_front (λ (call : ℕ). Every (λ (entry : Entry). call < call_of entry) entries) (map call_number mid.calls) (map call_number other.calls)
             (subst (λ (calls : List ℕ). AreLater calls entries) numbers later));
@@ -78,9 +81,9 @@ module _ {In Out Fixed : Type 0} (states : EndStates In Out) (kind : SessionKind
   -- a worker whose seat met that of the others
   itself : (before mid after : Held Fixed) (started ended : ServedState Fixed) (a b : ListenerState In Out) (one : WorkEnd)
       → started.seat ≡ record before { calls = []; exhausted = false; share = 1 }
-      → Works states kind asked (record { listener = a; port = port_of started }) (record { listener = b; port = port_of ended }) one
+      → Works (HasSession states kind) asked (record { listener = a; own = port_of started }) (record { listener = b; own = port_of ended }) one
       → Meets call_of mid ended.seat after
-      → WorksBeside states kind asked before after (record { before = record { listener = a; port = port_of started }; after = record { listener = b; port = port_of ended }; end = one })
+      → WorksBeside states kind asked before after (record { before = record { listener = a; own = port_of started }; after = record { listener = b; own = port_of ended }; end = one })
   itself before mid after started ended a b one mine works meets =
       let own : List (Call Entry) = ended.seat.calls in
       let numbers : map call_number after.calls ≡ map call_number mid.calls ++ map call_number own = ap (map call_number) meets.calls ∙ map-append call_number mid.calls own in record {
@@ -102,8 +105,8 @@ module _ {In Out Fixed : Type 0} (states : EndStates In Out) (kind : SessionKind
         exhausted = λ spent. meets.note ∙ either_true mid.exhausted ended.seat.exhausted spent;
       }
 
-  longest_of : (before less mid other after : Held Fixed) (worker : Worker In Out) (workers : List (Worker In Out)) → less.seen ≡ before.seen → Meets call_of mid other after
-      → other.seen ≡ worker.after.port.seen → (mid.seen ≡ less.seen) ⊎ Any (HasSeen mid.seen) workers → (after.seen ≡ before.seen) ⊎ Any (HasSeen after.seen) (worker ∷ workers)
+  longest_of : (before less mid other after : Held Fixed) (worker : DeskWorker In Out) (workers : List (DeskWorker In Out)) → less.seen ≡ before.seen → Meets call_of mid other after
+      → other.seen ≡ worker.after.own.seen → (mid.seen ≡ less.seen) ⊎ Any (HasSeen mid.seen) workers → (after.seen ≡ before.seen) ⊎ Any (HasSeen after.seen) (worker ∷ workers)
   longest_of before less mid other after worker workers same meets its longest = ⊎_elim
       (λ (mine : after.seen ≡ mid.seen). ⊎_elim
       (λ (none : mid.seen ≡ less.seen). inl (mine ∙ (none ∙ same)))
@@ -114,8 +117,8 @@ module _ {In Out Fixed : Type 0} (states : EndStates In Out) (kind : SessionKind
 
   -- an entry that a call put at risk is that of a call from before, or the one that the worker or
   -- one of the others tells
-  at_risk_of : (before less mid other after : Held Fixed) (worker : Worker In Out) (workers : List (Worker In Out)) → less.calls ≡ before.calls → after.calls ≡ mid.calls ++ other.calls
-      → worker.after.port.at_risk ≡ latest_at_risk other.calls
+  at_risk_of : (before less mid other after : Held Fixed) (worker : DeskWorker In Out) (workers : List (DeskWorker In Out)) → less.calls ≡ before.calls → after.calls ≡ mid.calls ++ other.calls
+      → worker.after.own.at_risk ≡ latest_at_risk other.calls
       → ((entry : Entry) → HasCallOf entry mid.calls → StaysAtRisk entry mid.calls → HasCallOf entry less.calls ⊎ Any (TellsAtRisk entry) workers)
       → (entry : Entry) → HasCallOf entry after.calls → StaysAtRisk entry after.calls → HasCallOf entry before.calls ⊎ Any (TellsAtRisk entry) (worker ∷ workers)
   at_risk_of before less mid other after worker workers same calls its rest entry has stays =
@@ -131,18 +134,18 @@ module _ {In Out Fixed : Type 0} (states : EndStates In Out) (kind : SessionKind
   -- a worker, and the others beside it
   one_more : (before less mid after : Held Fixed) (started ended : ServedState Fixed) (a b : ListenerState In Out) (olds news : List (ListenerState In Out)) (one others : WorkEnd)
       → less ≡ record before { share = before.share - 1 } → started.seat ≡ record before { calls = []; exhausted = false; share = 1 }
-      → Works states kind asked (record { listener = a; port = port_of started }) (record { listener = b; port = port_of ended }) one
+      → Works (HasSession states kind) asked (record { listener = a; own = port_of started }) (record { listener = b; own = port_of ended }) one
       → WorkTogether states kind asked (record { listeners = olds; seat = less }) (record { listeners = news; seat = mid }) others
       → Meets call_of mid ended.seat after
       → WorkTogether states kind asked (record { listeners = a ∷ olds; seat = before }) (record { listeners = b ∷ news; seat = after }) (end_of (one ∷ others ∷ []))
   one_more before less mid after started ended a b olds news one others less_is mine works rest meets =
-      let worker : Worker In Out = record { before = record { listener = a; port = port_of started }; after = record { listener = b; port = port_of ended }; end = one } in
+      let worker : DeskWorker In Out = record { before = record { listener = a; own = port_of started }; after = record { listener = b; own = port_of ended }; end = one } in
       let same : less.seen ≡ before.seen = ap (λ (seat : Held Fixed). seat.seen) less_is in
       let more : List Entry = meets.mine.rest in record {
         workers = worker ∷ rest.workers;
         begun = ap (λ (listeners : List (ListenerState In Out)). a ∷ listeners) rest.begun;
         ended = ap (λ (listeners : List (ListenerState In Out)). b ∷ listeners) rest.ended;
-        end_is = ends one others (map (λ (w : Worker In Out). w.end) rest.workers) rest.end_is;
+        end_is = ends one others (map (λ (w : DeskWorker In Out). w.end) rest.workers) rest.end_is;
         work = (
           itself before mid after started ended a b one mine works meets,
           every_more (WorksBeside states kind asked less mid) (WorksBeside states kind asked before after) (beside before less mid ended.seat after same meets) rest.workers rest.work,
@@ -163,7 +166,7 @@ module _ {In Out Fixed : Type 0} (states : EndStates In Out) (kind : SessionKind
         told =
             let all = ap (sum_by faults_of) meets.calls ∙ sum_by-append faults_of mid.calls ended.seat.calls in
             let less_calls = ap (λ (seat : Held Fixed). sum_by faults_of seat.calls) less_is in
-            let crew = sum_by-cons (λ (w : Worker In Out). w.after.port.faults) worker rest.workers in
+            let crew = sum_by-cons (λ (w : DeskWorker In Out). w.after.own.faults) worker rest.workers in
             let theirs = rest.told in
             omega (arith, all, theirs, less_calls, crew);
         at_risk = at_risk_of before less mid ended.seat after worker rest.workers (ap (λ (seat : Held Fixed). seat.calls) less_is) meets.calls refl rest.at_risk;
@@ -184,18 +187,19 @@ module _ {In Out Fixed : Type 0} (states : EndStates In Out) (kind : SessionKind
     at_risk = λ entry has stays. inl has;
   }
 
--- the workers over the ports of the front and of the rest
-module _ {In Out L P Fixed : Type 0} (states : EndStates In Out) (state : L → ListenerState In Out) (port : P → PortState) (fixed : P → Fixed) (kind : P → SessionKind) (asked : ℕ) where
-  pub no_work : (ports : List P) (listeners : List L) → length ports ≡ length listeners → length listeners ≡ 0
-      → WorkAll states state port fixed kind asked ports listeners ports listeners Done
+-- the workers of the front and of the rest
+module _ {In Out L S State Fixed : Type 0} (serves : Fixed → State → Connection In Out → State → Type 0) (fixed : S → Fixed) (state : S → State)
+    (listens : L → ListenerState In Out) (asked : ℕ) where
+  pub no_work : (owns : List S) (listeners : List L) → length owns ≡ length listeners → length listeners ≡ 0
+      → WorkAll serves fixed state listens asked owns listeners owns listeners Done
   no_work [] [] same none = refl
-  no_work ports (listener ∷ listeners) same none = absurd (omega arith)
-  no_work (own ∷ ports) [] same none = absurd (omega arith)
+  no_work owns (listener ∷ listeners) same none = absurd (omega arith)
+  no_work (own ∷ owns) [] same none = absurd (omega arith)
 
-  pub of_front : (front news rest others : List P) (first lefts more lasts : List L) (one end all : WorkEnd) → length front ≡ 1 → length first ≡ 1
-      → WorkEach states state port fixed kind asked front first news lefts one → WorkAll states state port fixed kind asked rest more others lasts end
+  pub of_front : (front news rest others : List S) (first lefts more lasts : List L) (one end all : WorkEnd) → length front ≡ 1 → length first ≡ 1
+      → WorkEach serves fixed state listens asked front first news lefts one → WorkAll serves fixed state listens asked rest more others lasts end
       → all ≡ end_of (one ∷ end ∷ [])
-      → WorkAll states state port fixed kind asked (front ++ rest) (first ++ more) (news ++ others) (lefts ++ lasts) all
+      → WorkAll serves fixed state listens asked (front ++ rest) (first ++ more) (news ++ others) (lefts ++ lasts) all
   of_front (old ∷ []) (new ∷ []) rest others (listener ∷ []) (left ∷ []) more lasts one end all single only each work is = (one, end, each.0, work, is)
   of_front [] news rest others first lefts more lasts one end all single only each work is = absurd (omega arith)
   of_front (old ∷ other ∷ front) news rest others first lefts more lasts one end all single only each work is = absurd (omega arith)
@@ -222,9 +226,18 @@ module _ {Fixed : Type 0} where
   meet_more before between after (first ∷ ports) port meets all = (all.0, meet_more before between all.0 ports port meets all.1, all.2)
 
 -- workers over ports that were cut from a seat of this board, and whose seats it met
-module _ {In Out L Fixed : Type 0} (states : EndStates In Out) (state : L → ListenerState In Out) (kinds : Fixed → SessionKind) (asked : ℕ) (board : TurnBoardState Fixed) where
-  abbrev Over : List (ServedState Fixed) → List L → List (ServedState Fixed) → List L → WorkEnd → Type 0
-  Over = WorkAll states state port_of board_and_share (λ (port : ServedState Fixed). kinds (fixed_of port)) asked
+module _ {In Out L Fixed : Type 0} (states : EndStates In Out) (state : L → ListenerState In Out) (text : Fixed → FeedAsk → List Entry → List ℕ) (airport : Fixed → AirportParts) (asked : ℕ)
+    (board : TurnBoardState Fixed) where
+  -- what is fixed of a port, and its airport
+  abbrev fixed_at : ServedState Fixed → (TurnBoardState Fixed × ℕ) × AirportParts
+  fixed_at port = (board_and_share port, airport (fixed_of port))
+
+  abbrev kinds : Fixed → SessionKind
+  kinds fixed = seat_sessions (text fixed) (airport fixed)
+
+  abbrev pub Over : List (ServedState Fixed) → List L → List (ServedState Fixed) → List L → WorkEnd → Type 0
+  Over = WorkAll (λ (at : (TurnBoardState Fixed × ℕ) × AirportParts). HasSession states (kinds_at SeatTurn (λ (fixed : TurnBoardState Fixed × ℕ). FeedTurns (text fixed.0.start.fixed)) at))
+      fixed_at port_of state asked
 
   pub together : (before less after : Held Fixed) (olds news : List (ServedState Fixed)) (listeners lefts : List L) (end : WorkEnd)
       → AreCutFrom before olds less → Every (λ (port : ServedState Fixed). port.board ≡ board) olds → Over olds listeners news lefts end → MeetsAll less news after
@@ -237,8 +250,8 @@ module _ {In Out L Fixed : Type 0} (states : EndStates In Out) (state : L → Li
       let one : WorkEnd = work.0 in
       let more : WorkEnd = work.1 in
       let rest = together (record before { share = before.share - 1 }) less meets.0 olds news listeners lefts more cut.1 own.1 work.3 meets.1 in
-      let works : Works states (kinds board.start.fixed) asked (record { listener = state listener; port = port_of old }) (record { listener = state left; port = port_of new }) one =
-      subst (λ (at : Fixed). Works states (kinds at) asked (record { listener = state listener; port = port_of old }) (record { listener = state left; port = port_of new }) one)
+      let works : Works (HasSession states (kinds board.start.fixed)) asked (record { listener = state listener; own = port_of old }) (record { listener = state left; own = port_of new }) one =
+      subst (λ (at : Fixed). Works (HasSession states (kinds at)) asked (record { listener = state listener; own = port_of old }) (record { listener = state left; own = port_of new }) one)
       (ap (λ (b : TurnBoardState Fixed). b.start.fixed) own.0) work.2.0 in
       subst (λ (e : WorkEnd). WorkTogether states (kinds board.start.fixed) asked (record { listeners = map state (listener ∷ listeners); seat = before })
       (record { listeners = map state (left ∷ lefts); seat = after }) e) (sym work.4)
@@ -267,7 +280,7 @@ module _ {In Out L Fixed : Type 0} (states : EndStates In Out) (state : L → Li
       → Over olds listeners news lefts end → Every (λ (port : ServedState Fixed). port.board ≡ board) news
   still_own [] [] [] [] end own work = tt
   still_own (old ∷ olds) (new ∷ news) (listener ∷ listeners) (left ∷ lefts) end own work =
-      (ap (λ (fixed : TurnBoardState Fixed × ℕ). fixed.0) work.2.1 ∙ own.0, still_own olds news listeners lefts work.1 own.1 work.3)
+      (ap (λ (at : (TurnBoardState Fixed × ℕ) × AirportParts). at.0.0) work.2.1 ∙ own.0, still_own olds news listeners lefts work.1 own.1 work.3)
   still_own [] news (listener ∷ listeners) lefts end own work = absurd work
   still_own [] (new ∷ news) [] lefts end own work = absurd work
   still_own [] [] [] (left ∷ lefts) end own work = absurd work
@@ -281,7 +294,7 @@ module _ {In Out L Fixed : Type 0} (states : EndStates In Out) (state : L → Li
   shares_back before less after [] [] [] [] end few cut work meets = ap (λ (seat : Held Fixed). seat.share) (meets ∙ cut)
   shares_back before less after (old ∷ olds) (new ∷ news) (listener ∷ listeners) (left ∷ lefts) end few cut work meets =
       let one : old.seat.share ≡ 1 = ap (λ (seat : Held Fixed). seat.share) cut.0 in
-      let same : new.seat.share ≡ old.seat.share = ap (λ (fixed : TurnBoardState Fixed × ℕ). fixed.1) work.2.1 in
+      let same : new.seat.share ≡ old.seat.share = ap (λ (at : (TurnBoardState Fixed × ℕ) × AirportParts). at.0.1) work.2.1 in
       let rest = shares_back (record before { share = before.share - 1 }) less meets.0 olds news listeners lefts work.1 (omega arith) cut.1 work.3 meets.1 in
       let added = meets.2.share in omega arith
   shares_back before less after [] news (listener ∷ listeners) lefts end few cut work meets = absurd work
@@ -297,7 +310,7 @@ once first end number count order counts = grind (arith, nat_tests)
 
 -- an entry at risk after a board's history is the one that a worker tells, if no call was made
 -- before
-unkept : {In Out : Type 0} (workers : List (Worker In Out)) (calls : List (Call Entry)) (history : List Entry) (risk : Option Entry)
+unkept : {In Out : Type 0} (workers : List (DeskWorker In Out)) (calls : List (Call Entry)) (history : List Entry) (risk : Option Entry)
     → ((entry : Entry) → HasCallOf entry calls → StaysAtRisk entry calls → HasCallOf entry [] ⊎ Any (TellsAtRisk entry) workers)
     → IfSome risk (IsPutAtRisk call_of calls history) → IfSome risk (IsUnkeptOf workers history)
 unkept workers calls history None told put = tt
@@ -328,8 +341,8 @@ module _ {In Out Fixed : Type 0} (states : EndStates In Out) (kinds : Fixed → 
         end_is = together.end_is;
         work = every_more (WorksBeside states (kinds board.start.fixed) asked first last) (WorksAt states kinds asked machine left) (λ worker work. record {
           fresh = record { seen = work.fresh.seen ∙ seen; calls = work.fresh.calls; at_risk = work.fresh.at_risk; spent = work.fresh.spent; faults = work.fresh.faults };
-          works = subst (λ (at : Fixed). Works states (kinds at) asked worker.before worker.after worker.end) fixed work.works;
-          seen = subst (λ (history : List Entry). IsLater worker.after.port.seen worker.after.port.calls history) (sym closes.history) work.seen;
+          works = subst (λ (at : Fixed). Works (HasSession states (kinds at)) asked worker.before worker.after worker.end) fixed work.works;
+          seen = subst (λ (history : List Entry). IsLater worker.after.own.seen worker.after.own.calls history) (sym closes.history) work.seen;
         }) together.workers together.work;
         fixed = closes.fixed ∙ fixed;
         legal = legal;
@@ -350,7 +363,7 @@ module _ {In Out Fixed : Type 0} (states : EndStates In Out) (kinds : Fixed → 
             let start = none number in
             subst (λ (least : ℕ). count_by (λ call. number == call) (crew_calls together.workers) ≡ cond (nat_le least number && nat_lt number closes.end) 1 0) next
             (once board.start.first closes.end number (count_by (λ call. number == call) (crew_calls together.workers)) closes.order.0 (omega arith));
-        exhausted = every_more (WorksBeside states (kinds board.start.fixed) asked first last) (λ (worker : Worker In Out). worker.after.port.spent ≡ true → closes.end ≡ _)
+        exhausted = every_more (WorksBeside states (kinds board.start.fixed) asked first last) (λ (worker : DeskWorker In Out). worker.after.own.spent ≡ true → closes.end ≡ _)
             (λ worker work spent. closes.exhausted (work.exhausted spent)) together.workers together.work;
         faults = let rose = closes.rose in omega arith;
         told = subst (λ (least : ℕ). CountsTold (crew_faults together.workers) least left.faults) faults

@@ -6,17 +6,9 @@ use Rattle.apron_base.specs.Counts.{Counts, Rose}
 use Rattle.apron_base.specs.Keeper.{with_last}
 use Rattle.apron_base.specs.Listener.{ListenerState, TakesFirst, TakesNone, Finishes as IsFinished}
 use Rattle.apron_base.specs.declared.listener.Finished.{Finished}
-use Rattle.apron_rules.specs.declared.parts.AirportParts.{AirportParts}
-use Rattle.desk_asks.specs.declared.asks.Ask.{Ask}
-use Rattle.history_core.specs.Answer.{Given}
-use Rattle.desk_http.specs.FeedPorts.{FeedGiven}
-use Rattle.desk_http.specs.Ports.{PortState}
-use Rattle.desk_http.specs.declared.port.FeedAsk.{FeedAsk}
-use Rattle.desk_http.specs.Session.{SessionKind, SessionOfKind}
 use Rattle.desk_workers.specs.declared.worker.WorkEnd.{WorkEnd}
 use Rattle.desk_workers.specs.declared.worker.WorkEnd.TheVariants.{Done, ListenerFault}
-use Rattle.desk_workers.specs.Feeds.{fed_kind}
-use Rattle.desk_workers.specs.Work.{AreServed, Connection, EndStates, Serves, TakesAndFinishes, WorkState, Works, come_of, finished_of}
+use Rattle.desk_workers.specs.Work.{AreServed, Connection, Serves, TakesAndFinishes, WorkState, Works, come_of, finished_of}
 
 module _ {In Out : Type 0} where
   -- the connections to come, before both parts were accepted
@@ -91,89 +83,79 @@ module _ {In Out : Type 0} where
     faults = finished.faults ∙ first.faults;
   }
 
--- `kinds` says of which kind the sessions are, by what a port has that no session changes
-module _ {In Out : Type 0} (states : EndStates In Out) {Fixed : Type 0} (kinds : Fixed → SessionKind) (fixed : Fixed) where
+-- `serves` says what serving a connection does, by what none changes
+module _ {In Out State Fixed : Type 0} (serves : Fixed → State → Connection In Out → State → Type 0) (fixed : Fixed) where
   -- connections and then others
-  served_more : (before between after : PortState) (xs ys : List (Connection In Out))
-      → AreServed states (kinds fixed) before xs between → AreServed states (kinds fixed) between ys after → AreServed states (kinds fixed) before (xs ++ ys) after
-  served_more before between after [] ys first second = subst (λ port. AreServed states (kinds fixed) port ys after) first second
+  served_more : (before between after : State) (xs ys : List (Connection In Out))
+      → AreServed (serves fixed) before xs between → AreServed (serves fixed) between ys after → AreServed (serves fixed) before (xs ++ ys) after
+  served_more before between after [] ys first second = subst (λ (own : State). AreServed (serves fixed) own ys after) first second
   served_more before between after (x ∷ xs) ys first second = (first.0, first.1, served_more first.0 between after xs ys first.2 second)
 
-  pub serves_more : (failed : Bool) (before between after : WorkState In Out) (xs ys : List (Connection In Out))
-      → Serves states (kinds fixed) false before between xs → Serves states (kinds fixed) failed between after ys → Serves states (kinds fixed) failed before after (xs ++ ys)
+  pub serves_more : (failed : Bool) (before between after : WorkState In Out State) (xs ys : List (Connection In Out))
+      → Serves (serves fixed) false before between xs → Serves (serves fixed) failed between after ys → Serves (serves fixed) failed before after (xs ++ ys)
   serves_more failed before between after xs ys first second = record {
-    served = served_more before.port between.port after.port xs ys first.served second.served;
+    served = served_more before.own between.own after.own xs ys first.served second.served;
     finishes = finishes_more failed before.listener between.listener after.listener xs ys first.finishes second.finishes;
   }
 
   -- nothing was served yet
-  none_served : (state : WorkState In Out) → Serves states (kinds fixed) false state state []
+  none_served : (state : WorkState In Out State) → Serves (serves fixed) false state state []
   none_served state = record { served = refl; finishes = none_finished state.listener }
 
   -- this many connections were served, of those that a worker was asked for
-  abbrev pub SoFar : ℕ → WorkState In Out → WorkState In Out → Type 0
-  SoFar count before now = (connections : List (Connection In Out)) × Serves states (kinds fixed) false before now connections × (length connections ≡ count)
+  abbrev pub SoFar : ℕ → WorkState In Out State → WorkState In Out State → Type 0
+  SoFar count before now = (connections : List (Connection In Out)) × Serves (serves fixed) false before now connections × (length connections ≡ count)
 
-  pub begins : (state : WorkState In Out) → SoFar 0 state state
+  pub begins : (state : WorkState In Out State) → SoFar 0 state state
   begins state = ([], none_served state, refl)
 
   -- one connection more
-  pub goes_on : (now : Fixed) (count : ℕ) (before between after : WorkState In Out) → now ≡ fixed → SoFar count before between
-      → ((connection : Connection In Out) × Serves states (kinds now) false between after (connection ∷ [])) → SoFar (count + 1) before after
+  pub goes_on : (now : Fixed) (count : ℕ) (before between after : WorkState In Out State) → now ≡ fixed → SoFar count before between
+      → ((connection : Connection In Out) × Serves (serves now) false between after (connection ∷ [])) → SoFar (count + 1) before after
   goes_on now count before between after same so next =
       let more = length-append so.0 (next.0 ∷ []) in
       let size = so.2 in (
         so.0 ++ next.0 ∷ [],
-        serves_more false before between after so.0 (next.0 ∷ []) so.1 (subst (λ (at : Fixed). Serves states (kinds at) false between after (next.0 ∷ [])) same next.1),
+        serves_more false before between after so.0 (next.0 ∷ []) so.1 (subst (λ (at : Fixed). Serves (serves at) false between after (next.0 ∷ [])) same next.1),
         omega (arith, more),
       )
 
   -- the listener failed before all were served
-  pub stops : (now : Fixed) (count asked : ℕ) (before between after : WorkState In Out) → now ≡ fixed → SoFar count before between → count < asked
-      → Serves states (kinds now) true between after [] → Works states (kinds fixed) asked before after ListenerFault
+  pub stops : (now : Fixed) (count asked : ℕ) (before between after : WorkState In Out State) → now ≡ fixed → SoFar count before between → count < asked
+      → Serves (serves now) true between after [] → Works (serves fixed) asked before after ListenerFault
   stops now count asked before between after same so few next =
       let more = length-append so.0 [] in
       let size = so.2 in record {
         connections = so.0 ++ [];
-        serves = serves_more true before between after so.0 [] so.1 (subst (λ (at : Fixed). Serves states (kinds at) true between after []) same next);
+        serves = serves_more true before between after so.0 [] so.1 (subst (λ (at : Fixed). Serves (serves at) true between after []) same next);
         count = omega (arith, more);
       }
 
   -- all were served
-  pub is_done : (count asked : ℕ) (before after : WorkState In Out) → SoFar count before after → count ≡ asked → Works states (kinds fixed) asked before after Done
+  pub is_done : (count asked : ℕ) (before after : WorkState In Out State) → SoFar count before after → count ≡ asked → Works (serves fixed) asked before after Done
   is_done count asked before after so all = record { connections = so.0; serves = so.1; count = so.2 ∙ all }
 
-  -- a worker whose listener's count of faults didn't rise served all
-  pub done_unless : (asked : ℕ) (before after : WorkState In Out) (end : WorkEnd) → Works states (kinds fixed) asked before after end
-      → ¬ (Rose before.listener.faults after.listener.faults) → end ≡ Done
-  done_unless asked before after Done works none = refl
-  done_unless asked before after ListenerFault works none = absurd (none works.serves.finishes.faults.1)
-
-  -- a connection was accepted, had its session and was finished
-  pub one_served : (before taken after : ListenerState In Out) (port ported : PortState) (source : In) (sink : Out) (last : Finished In Out)
+  -- a connection was accepted, served and finished
+  pub one_served : (before taken after : ListenerState In Out) (own left : State) (source : In) (sink : Out) (last : Finished In Out)
       → TakesFirst before taken (source, sink)
-      → SessionOfKind (kinds fixed) (record { source = states.source source; sink = states.sink sink; port = port })
-      (record { source = states.source last.source; sink = states.sink last.sink; port = ported }) last.outcome
+      → serves fixed own (record { source = source; sink = sink; finished = last }) left
       → IsFinished taken after last
-      → (connection : Connection In Out) × Serves states (kinds fixed) false (record { listener = before; port = port }) (record { listener = after; port = ported }) (connection ∷ [])
-  one_served before taken after port ported source sink last first session finished = (
+      → (connection : Connection In Out) × Serves (serves fixed) false (record { listener = before; own = own }) (record { listener = after; own = left }) (connection ∷ [])
+  one_served before taken after own left source sink last first served finished = (
     record { source = source; sink = sink; finished = last },
     record {
-      served = (ported, session, refl);
+      served = (left, served, refl);
       finishes = one_finished before taken after source sink last first finished;
     },
   )
 
-  -- the listener failed, and the port was not asked
-  pub none_taken : (before after : ListenerState In Out) (port : PortState) → TakesNone before after
-      → Serves states (kinds fixed) true (record { listener = before; port = port }) (record { listener = after; port = port }) []
-  none_taken before after port none = record { served = refl; finishes = failed_finishing before after none }
+  -- the listener failed, and nothing was served
+  pub none_taken : (before after : ListenerState In Out) (own : State) → TakesNone before after
+      → Serves (serves fixed) true (record { listener = before; own = own }) (record { listener = after; own = own }) []
+  none_taken before after own none = record { served = refl; finishes = failed_finishing before after none }
 
--- the sessions over a port, by what is fixed of it and its airport
-module _ {Fixed : Type 0} (asks : AirportParts → PortState → Ask → Given → PortState → Type 0) (feeds : Fixed → AirportParts → PortState → FeedAsk → FeedGiven → PortState → Type 0) where
-  abbrev pub kinds_at : Fixed × AirportParts → SessionKind
-  kinds_at at = fed_kind asks (feeds at.0) at.1
-
--- what is fixed and an airport that are as they were
-pub same_at : {A B : Type 0} (a b : A) (c d : B) → a ≡ b → c ≡ d → ◌≡◌ {A = A × B} (a, c) (b, d)
-same_at a b c d first second = rw (first, second) refl
+-- a worker whose listener's count of faults didn't rise served all
+pub done_unless : {In Out State : Type 0} (served : State → Connection In Out → State → Type 0) (asked : ℕ) (before after : WorkState In Out State) (end : WorkEnd) → Works served asked before after end
+    → ¬ (Rose before.listener.faults after.listener.faults) → end ≡ Done
+done_unless served asked before after Done works none = refl
+done_unless served asked before after ListenerFault works none = absurd (none works.serves.finishes.faults.1)

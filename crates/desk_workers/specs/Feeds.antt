@@ -39,6 +39,13 @@ abbrev pub fed_kind : (AirportParts → PortState → Ask → Given → PortStat
 fed_kind asks feeds airport =
     record { airport = airport; comes = FedAnswers asks feeds airport }
 
+-- the same by what is fixed of the port and its airport
+abbrev pub kinds_at : {Fixed : Type 0}
+    → (AirportParts → PortState → Ask → Given → PortState → Type 0)
+    → (Fixed → AirportParts → PortState → FeedAsk → FeedGiven → PortState → Type 0)
+    → Fixed × AirportParts → SessionKind
+kinds_at asks feeds at = fed_kind asks (feeds at.0) at.1
+
 -- the sessions over the port of a seat at the airport, if `text` says what the reply to each feed is
 -- at each history
 abbrev pub seat_sessions : (FeedAsk → List Entry → List ℕ) → AirportParts → SessionKind

@@ -8,13 +8,13 @@ use Rattle.history_core.specs.History.{call_of}
 use Rattle.turn_board.specs.Board.{Meets, SeatState}
 use Rattle.turn_board.specs.Totals.{times}
 use Rattle.turn_board.specs.declared.view.Call.{Call}
-use Rattle.desk_http.specs.Ports.{IsLater, PortState}
+use Rattle.desk_http.specs.Ports.{IsLater}
 use Rattle.desk_http.specs.Session.{SessionKind}
 use Rattle.desk_workers.specs.declared.worker.WorkEnd.{WorkEnd}
 use Rattle.desk_workers.specs.declared.worker.WorkEnd.TheVariants.{Done}
-use Rattle.desk_workers.specs.Crew.{HasSeen, IsFresh, TellsAtRisk, Worker, crew_calls, crew_faults, end_of}
+use Rattle.desk_workers.specs.Crew.{DeskWorker, HasSeen, IsFresh, TellsAtRisk, crew_calls, crew_faults, end_of}
 use Rattle.desk_workers.specs.Seats.{ServedState, call_number, faults_of}
-use Rattle.desk_workers.specs.Work.{EndStates, Works}
+use Rattle.desk_workers.specs.Work.{Connection, EndStates, HasSession, Works}
 
 -- the listeners of the workers in order, and the seat that theirs are cut from
 pub record SeatedState (In Out Fixed : Type 0) : Type 0 where
@@ -38,24 +38,24 @@ StaysAtRisk entry calls =
 -- begins the history that is seen then, and its calls and its note of exhausted numbers are with
 -- that seat.
 pub record WorksBeside {In Out Fixed : Type 0} (states : EndStates In Out) (kind : SessionKind)
-    (asked : ℕ) (before after : SeatState Entry Fixed) (worker : Worker In Out) : Type 0 where
-  pub fresh : IsFresh before.seen worker.before.port
-  pub works : Works states kind asked worker.before worker.after worker.end
-  pub seen : IsLater worker.after.port.seen worker.after.port.calls after.seen
+    (asked : ℕ) (before after : SeatState Entry Fixed) (worker : DeskWorker In Out) : Type 0 where
+  pub fresh : IsFresh before.seen worker.before.own
+  pub works : Works (HasSession states kind) asked worker.before worker.after worker.end
+  pub seen : IsLater worker.after.own.seen worker.after.own.calls after.seen
   pub own : (entries : List Entry)
       → AreLater (map call_number after.calls) entries
-      → AreLater worker.after.port.calls entries
-  pub exhausted : worker.after.port.spent ≡ true → after.exhausted ≡ true
+      → AreLater worker.after.own.calls entries
+  pub exhausted : worker.after.own.spent ≡ true → after.exhausted ≡ true
 
 -- workers that were asked for this many connections each, one for each listener: how they ended
 -- together, and the seat that has met all of theirs; an entry that one of its calls put at risk,
 -- and which stayed so, is that of a call from before or the one that a worker tells
 pub record WorkTogether {In Out Fixed : Type 0} (states : EndStates In Out) (kind : SessionKind)
     (asked : ℕ) (before after : SeatedState In Out Fixed) (end : WorkEnd) : Type 0 where
-  pub workers : List (Worker In Out)
-  pub begun : before.listeners ≡ map (λ (worker : Worker In Out). worker.before.listener) workers
-  pub ended : after.listeners ≡ map (λ (worker : Worker In Out). worker.after.listener) workers
-  pub end_is : end ≡ end_of (map (λ (worker : Worker In Out). worker.end) workers)
+  pub workers : List (DeskWorker In Out)
+  pub begun : before.listeners ≡ map (λ (worker : DeskWorker In Out). worker.before.listener) workers
+  pub ended : after.listeners ≡ map (λ (worker : DeskWorker In Out). worker.after.listener) workers
+  pub end_is : end ≡ end_of (map (λ (worker : DeskWorker In Out). worker.end) workers)
   pub work : Every (WorksBeside states kind asked before.seat after.seat) workers
   pub begins : IsLater before.seat.seen [] after.seat.seen
   pub longest : (after.seat.seen ≡ before.seat.seen) ⊎ Any (HasSeen after.seat.seen) workers
@@ -69,26 +69,27 @@ pub record WorkTogether {In Out Fixed : Type 0} (states : EndStates In Out) (kin
       → StaysAtRisk entry after.seat.calls
       → HasCallOf entry before.seat.calls ⊎ Any (TellsAtRisk entry) workers
 
--- `port` says what a port tells, `fixed` what no call changes of it, and `kind` of which kind its
--- sessions are
-module _ {In Out L P Fixed : Type 0} (states : EndStates In Out) (state : L → ListenerState In Out)
-    (port : P → PortState) (fixed : P → Fixed) (kind : P → SessionKind) (asked : ℕ) where
-  -- a worker served its listener over its port, which kept what is fixed of it, and ended so
-  abbrev pub WorksOver : P → L → P → L → WorkEnd → Type 0
+-- `serves` says what serving a connection does to what a worker serves by, by what is `fixed` of
+-- this, and `state` what is seen of it
+module _ {In Out L S State Fixed : Type 0}
+    (serves : Fixed → State → Connection In Out → State → Type 0) (fixed : S → Fixed)
+    (state : S → State) (listens : L → ListenerState In Out) (asked : ℕ) where
+  -- a worker served its listener by what it has, of which it kept what is fixed, and ended so
+  abbrev pub WorksOver : S → L → S → L → WorkEnd → Type 0
   WorksOver old listener new left end =
-      Works states (kind old) asked (record { listener = state listener; port = port old })
-      (record { listener = state left; port = port new }) end
+      Works (serves (fixed old)) asked (record { listener = listens listener; own = state old })
+      (record { listener = listens left; own = state new }) end
       × (fixed new ≡ fixed old)
 
   -- each worker did so, and all ended so
-  abbrev pub WorkEach : List P → List L → List P → List L → WorkEnd → Type 0
+  abbrev pub WorkEach : List S → List L → List S → List L → WorkEnd → Type 0
   WorkEach [] [] [] [] end = Unit {0}
   WorkEach (old ∷ olds) (listener ∷ listeners) (new ∷ news) (left ∷ others) end =
       WorksOver old listener new left end × WorkEach olds listeners news others end
   WorkEach olds listeners news others end = ⊥
 
   -- each worker did so, and this is how they ended together
-  abbrev pub WorkAll : List P → List L → List P → List L → WorkEnd → Type 0
+  abbrev pub WorkAll : List S → List L → List S → List L → WorkEnd → Type 0
   WorkAll [] [] [] [] end = end ≡ Done
   WorkAll (old ∷ olds) (listener ∷ listeners) (new ∷ news) (left ∷ others) end =
       (one : WorkEnd)

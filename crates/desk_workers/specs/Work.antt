@@ -21,10 +21,10 @@ pub record Connection (In Out : Type 0) : Type 0 where
   pub sink : Out
   pub finished : Finished In Out
 
--- the listener of a worker and its port
-pub record WorkState (In Out : Type 0) : Type 0 where
+-- the listener of a worker, and what it serves by, as that is seen: a port, or a screen
+pub record WorkState (In Out State : Type 0) : Type 0 where
   pub listener : ListenerState In Out
-  pub port : PortState
+  pub own : State
 
 -- whether the listener failed
 abbrev pub is_listener_fault : WorkEnd → Bool
@@ -57,46 +57,47 @@ module _ {In Out : Type 0} where
     pub ended : after.ended ≡ before.ended + length connections
     pub faults : Counts failed before.faults after.faults
 
-module _ {In Out : Type 0} (states : EndStates In Out) (kind : SessionKind) where
-  -- the connection had a session of its own, and was finished with its outcome
-  abbrev pub HasSession : PortState → Connection In Out → PortState → Type 0
-  HasSession before connection after = SessionOfKind kind
-      (record {
-        source = states.source connection.source;
-        sink = states.sink connection.sink;
-        port = before;
-      })
-      (record {
-        source = states.source connection.finished.source;
-        sink = states.sink connection.finished.sink;
-        port = after;
-      })
-      connection.finished.outcome
+-- the connection had a session of this kind, and was finished with its outcome
+abbrev pub HasSession : {In Out : Type 0} → EndStates In Out → SessionKind → PortState
+    → Connection In Out → PortState → Type 0
+HasSession states kind before connection after = SessionOfKind kind
+    (record {
+      source = states.source connection.source;
+      sink = states.sink connection.sink;
+      port = before;
+    })
+    (record {
+      source = states.source connection.finished.source;
+      sink = states.sink connection.finished.sink;
+      port = after;
+    })
+    connection.finished.outcome
 
-  -- the connections had sessions of their own, one after the other
-  abbrev pub AreServed : PortState → List (Connection In Out) → PortState → Type 0
+-- `Served` says what serving a connection does to what the worker serves by
+module _ {In Out State : Type 0} (Served : State → Connection In Out → State → Type 0) where
+  -- the connections were served, one after the other
+  abbrev pub AreServed : State → List (Connection In Out) → State → Type 0
   AreServed before [] after = after ≡ before
   AreServed before (connection ∷ connections) after =
-      (between : PortState)
-      × HasSession before connection between
-      × AreServed between connections after
+      (between : State) × Served before connection between × AreServed between connections after
 
   -- these connections were accepted, served one after the other and finished, and another accept
   -- failed or none
-  pub record Serves (failed : Bool) (before after : WorkState In Out)
+  pub record Serves (failed : Bool) (before after : WorkState In Out State)
       (connections : List (Connection In Out)) : Type 0 where
-    pub served : AreServed before.port connections after.port
+    pub served : AreServed before.own connections after.own
     pub finishes : TakesAndFinishes failed before.listener after.listener connections
 
   -- one connection was served and finished, or the listener failed
-  abbrev pub ServesNext : {T E : Type 0} → WorkState In Out → WorkState In Out → Result T E → Type 0
+  abbrev pub ServesNext : {T E : Type 0} → WorkState In Out State → WorkState In Out State
+      → Result T E → Type 0
   ServesNext before after result = MatchResult result
       (λ _. (connection : Connection In Out) × Serves false before after (connection ∷ []))
       (λ _. Serves true before after [])
 
   -- A worker that was asked for this many connections: it served these, all or fewer, and fewer
   -- only if the listener failed.
-  pub record Works (asked : ℕ) (before after : WorkState In Out) (end : WorkEnd) : Type 0 where
+  pub record Works (asked : ℕ) (before after : WorkState In Out State) (end : WorkEnd) : Type 0 where
     pub connections : List (Connection In Out)
     pub serves : Serves (is_listener_fault end) before after connections
     pub count : IsEndAt end asked (length connections)

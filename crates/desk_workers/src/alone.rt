@@ -6,17 +6,18 @@ ghost use Rattle.desk_http.specs.Alone.{AloneAsks, port_over};
 ghost use Rattle.desk_http.specs.Ports.{ShowsAsk};
 ghost use Rattle.desk_workers.specs.Alone.{ActsNext};
 
-use crate::machine::{DeskMachine, FeedMachine};
-use crate::served::answer_if_uncopied;
+use crate::machine::DeskMachine;
+use crate::seat_port::answer_if_uncopied;
 use apron_base::{Acted, CALL_END, Machine, Memory, Name};
 use apron_rules::Airport;
 use desk_asks::{Ask, What};
-use desk_http::{DeskPort, Feed, FeedAsk, FeedPort};
+use desk_http::{DeskPort, FeedPort};
 use std::alloc::Global;
 use std::marker::Model;
+use watch_list::WatchAsk;
 
-/// The port of a desk that has a board with something around it to itself. It numbers its calls
-/// from the machine's next one on, and waits for nobody.
+/// The port of a desk that has a board with watches to itself, which may have something around it.
+/// It numbers its calls from the machine's next one on, and waits for nobody.
 ///
 /// Contracts see the machine, and the number that the first call has.
 pub struct AlonePort<'a, M: DeskMachine> {
@@ -89,7 +90,7 @@ impl<'a, M: DeskMachine> DeskPort for AlonePort<'a, M> {
     }
 }
 
-impl<'a, M: FeedMachine> FeedPort for AlonePort<'a, M> {
+impl<'a, M: DeskMachine> FeedPort for AlonePort<'a, M> {
     ghost use Rattle.desk_workers.specs.Alone.{AloneFeeds};
     ghost use Rattle.std.specs.Prelude.{◌≡◌, IfSome};
     ghost use Rattle.std.proofs.Common.{subst, sym};
@@ -105,12 +106,12 @@ impl<'a, M: FeedMachine> FeedPort for AlonePort<'a, M> {
     } };
 
     fn feed(&mut self, alloc: Global, seen: u32, watch: &Name, after: u32) -> Acted {
-        let feed = Feed {
+        let feed = WatchAsk::Feed {
+            seen,
             watch: *watch,
             after,
         };
-        let own = M::feed_ask(&FeedAsk { seen, feed });
-        act_next(alloc, &mut self.machine, own)
+        act_next(alloc, &mut self.machine, &feed)
     }
 }
 
@@ -126,8 +127,8 @@ fn ask_next<M: DeskMachine>(alloc: Global, machine: &mut M, ask: &Ask) -> Acted
         (port_over first (M.state machine.old)) ask.now result
         (port_over first (M.state machine.new)) }
 {
-    match M::copied(alloc, ask) {
-        Ok(own) => act_next(alloc, machine, own),
+    match ask.copy(alloc) {
+        Ok(own) => act_next(alloc, machine, &WatchAsk::Plain(own)),
         Err(Memory) => call_uncopied(alloc, machine),
     }
 }
@@ -143,36 +144,30 @@ fn call_uncopied<M: DeskMachine>(alloc: Global, machine: &mut M) -> Acted
         (port_over first (M.state machine.old)) ask result
         (port_over first (M.state machine.new)) }
 {
-    let version = Ask {
+    let version = WatchAsk::Plain(Ask {
         seen: 0,
         what: What::Version,
-    };
-    let Ok(own) = M::copied(alloc, &version) else {
-        unreachable!()
-    };
-    answer_if_uncopied(act_next(alloc, machine, own))
+    });
+    answer_if_uncopied(act_next(alloc, machine, &version))
 }
 
 // Asks a machine with the number of its next call. If there is no such number, the answer is
 // `Spent`, and the machine is not asked.
-fn act_next<M: DeskMachine>(alloc: Global, machine: &mut M, own: M::Ask) -> Acted
-    requires valid { M.valid (M.state machine.old).fixed own }
+fn act_next<M: DeskMachine>(alloc: Global, machine: &mut M, ask: &WatchAsk) -> Acted
+    requires valid { M.valid (M.state machine.old).fixed ask.now }
     ensures unasked { result ≡ Acted.Spent
         → (M.state machine.new ≡ M.state machine.old) × ((M.state machine.old).next ≡ call_limit) }
     ensures asked { result ≢ Acted.Spent
         → ActsNext M.number M.adds M.answers (M.state machine.old)
-        (record { ask = own; answer = result }) (M.state machine.new) }
+        (record { ask = ask.now; answer = result }) (M.state machine.new) }
     ensures legal { IsLegal (M.airport (M.state machine.old).fixed) (M.state machine.old).history }
     ensures fixed { (M.state machine.new).fixed ≡ (M.state machine.old).fixed }
     ensures next { (M.state machine.old).next ≤ (M.state machine.new).next }
 {
     machine.is_board();
     let call = machine.next_call();
-    let answer = if call == CALL_END {
-        Acted::Spent
-    } else {
-        machine.act(alloc, call, &own)
-    };
-    M::let_go(own);
-    answer
+    if call == CALL_END {
+        return Acted::Spent;
+    }
+    machine.act(alloc, call, ask)
 }

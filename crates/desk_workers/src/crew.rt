@@ -7,15 +7,14 @@ ghost use Rattle.history_core.specs.History.{IsLegal, call_of};
 ghost use Rattle.turn_board.specs.Board.{Closes, Sits};
 ghost use Rattle.turn_board.specs.Views.{all_shares};
 ghost use Rattle.desk_workers.specs.Crew.{ServesBoard, end_of};
-ghost use Rattle.desk_workers.specs.Feeds.{fed_kind, seat_sessions};
+ghost use Rattle.desk_workers.specs.Feeds.{seat_sessions};
 ghost use Rattle.desk_workers.specs.Together.{AreCutFrom, MeetsAll, WorkAll, WorkEach, WorkTogether};
 
-use crate::machine::{DeskMachine, FeedMachine};
-use crate::served::SeatPort;
-use crate::worker::{WorkEnd, work};
+use crate::machine::DeskMachine;
+use crate::seat_port::SeatPort;
+use crate::worker::{Server, Sessions, WorkEnd, work_each};
 use apron_base::{Listener, Memory};
 use apron_rules::Airport;
-use desk_http::FeedPort;
 use std::alloc::Global;
 use std::sync::Wait;
 use std::thread::{Threads, join_mut};
@@ -29,7 +28,7 @@ use turn_board::{Seat, TurnBoard};
 /// and the job was not run.
 pub fn serve_board<
     R: Threads + Wait + Sync,
-    M: FeedMachine + Send,
+    M: DeskMachine + Send,
     W: Workplace + Send,
     J: FnMut() -> T,
     T,
@@ -85,7 +84,7 @@ pub fn serve_board<
 fn work_in_turns<
     's,
     R: Threads + Wait + Sync,
-    M: FeedMachine + Send,
+    M: DeskMachine + Send,
     W: Workplace + Send,
     J: FnMut() -> T,
     T,
@@ -115,7 +114,15 @@ fn work_in_turns<
     ensures job { J.step job.old result.1 job.new }
 {
     cut_ports(rt, board, airport, seat, listeners.len(), &mut ports);
-    let ends = work_all(rt, alloc, ports.as_mut_slice(), listeners, connections, job);
+    let ends = work_all(
+        rt,
+        alloc,
+        &Sessions,
+        ports.as_mut_slice(),
+        listeners,
+        connections,
+        job,
+    );
     meet_ports(board, seat, ports);
     ends
 }
@@ -179,7 +186,6 @@ fn close_turns<M: DeskMachine>(turns: TurnBoard<M>, seat: Seat<M>) -> M
 pub trait Workplace {
     ghost use Rattle.std.specs.Prelude.{◌≡◌};
     ghost use Rattle.apron_base.specs.Listener.{ListenerState};
-    ghost use Rattle.desk_workers.specs.Feeds.{fed_kind};
     ghost use Rattle.desk_workers.specs.Work.{EndStates, Works};
 
     /// What a connection sends.
@@ -194,19 +200,20 @@ pub trait Workplace {
     /// The state of the listener.
     ghost state: { Self → ListenerState Self.In Self.Out };
 
-    /// Serves this many connections over the port, as `work` does.
-    fn work<P: FeedPort, R: Wait>(
+    /// Accepts this many connections one after the other, serves each by what the worker has of its
+    /// own, and finishes it. It ends early only if the listener fails.
+    fn work<S, K: Server<S>, R: Wait>(
         &mut self,
         rt: &R,
         alloc: Global,
-        port: &mut P,
+        server: &K,
+        own: &mut S,
         connections: u32,
     ) -> WorkEnd
-        ensures works { Works states
-            (fed_kind P.asks (P.feeds (P.fixed port.old)) (P.airport_of port.old)) connections
-            (record { listener = state self.old; port = P.port port.old })
-            (record { listener = state self.new; port = P.port port.new }) result }
-        ensures fixed { P.fixed port.new ≡ P.fixed port.old };
+        ensures works { Works (K.serves states (K.fixed own.old)) connections
+            (record { listener = state self.old; own = K.state own.old })
+            (record { listener = state self.new; own = K.state own.new }) result }
+        ensures fixed { K.fixed own.new ≡ K.fixed own.old };
 }
 
 impl<L: Listener> Workplace for L {
@@ -218,37 +225,39 @@ impl<L: Listener> Workplace for L {
 
     ghost state = { L.state };
 
-    fn work<P: FeedPort, R: Wait>(
+    fn work<S, K: Server<S>, R: Wait>(
         &mut self,
         rt: &R,
         alloc: Global,
-        port: &mut P,
+        server: &K,
+        own: &mut S,
         connections: u32,
     ) -> WorkEnd {
-        work(rt, alloc, port, self, connections)
+        work_each(rt, alloc, server, own, self, connections)
     }
 }
 
-// The only listener of a list, over the only port of one.
-fn work_first<P: FeedPort, W: Workplace, R: Wait>(
+// The only listener of a list, served by the only one of a list of ports or screens.
+fn work_first<S, K: Server<S>, W: Workplace, R: Wait>(
     rt: &R,
     alloc: Global,
-    ports: &mut [P],
+    server: &K,
+    owns: &mut [S],
     listeners: &mut [W],
     connections: u32,
 ) -> WorkEnd
-    requires port { length ports.old ≡ 1 }
+    requires own { length owns.old ≡ 1 }
     requires one { length listeners.old ≡ 1 }
-    ensures works { WorkEach W.states W.state P.port P.fixed
-        (λ port. fed_kind P.asks (P.feeds (P.fixed port)) (P.airport_of port)) connections
-        ports.old listeners.old ports.new listeners.new result }
+    ensures works { WorkEach (K.serves W.states) K.fixed K.state W.state connections
+        owns.old listeners.old owns.new listeners.new result }
 {
-    listeners[0].work(rt, alloc, &mut ports[0], connections)
+    listeners[0].work(rt, alloc, server, &mut owns[0], connections)
 }
 
 // The worker of the only listener of a list, in a thread of its own, and another job beside it.
 fn work_beside<
-    P: FeedPort + Send,
+    S: Send,
+    K: Server<S> + Sync,
     W: Workplace + Send,
     R: Threads + Wait + Sync,
     J: FnMut() -> T,
@@ -256,66 +265,74 @@ fn work_beside<
 >(
     rt: &R,
     alloc: Global,
-    ports: &mut [P],
+    server: &K,
+    owns: &mut [S],
     listeners: &mut [W],
     connections: u32,
     job: &mut J,
 ) -> (WorkEnd, T)
-    requires port { length ports.old ≡ 1 }
+    requires own { length owns.old ≡ 1 }
     requires one { length listeners.old ≡ 1 }
     requires job { J.pre job.old }
-    ensures works { WorkEach W.states W.state P.port P.fixed
-        (λ port. fed_kind P.asks (P.feeds (P.fixed port)) (P.airport_of port)) connections
-        ports.old listeners.old ports.new listeners.new result.0 }
+    ensures works { WorkEach (K.serves W.states) K.fixed K.state W.state connections
+        owns.old listeners.old owns.new listeners.new result.0 }
     ensures job { J.step job.old result.1 job.new }
 {
     join_mut(
         rt,
         &mut ||
-            requires { (length ports.now ≡ 1) × (length listeners.now ≡ 1) }
-            ensures works { WorkEach W.states W.state P.port P.fixed
-                (λ port. fed_kind P.asks (P.feeds (P.fixed port)) (P.airport_of port)) connections
-                ports.entry.now listeners.entry.now ports.exit.now listeners.exit.now result }
-        { work_first(rt, alloc, ports, listeners, connections) },
+            requires { (length owns.now ≡ 1) × (length listeners.now ≡ 1) }
+            ensures works { WorkEach (K.serves W.states) K.fixed K.state W.state connections
+                owns.entry.now listeners.entry.now owns.exit.now listeners.exit.now result }
+        { work_first(rt, alloc, server, owns, listeners, connections) },
         job,
     )
 }
 
-// A worker for each listener over the port of its place, each in a thread of its own, and the job
-// in this one.
-fn work_all<P: FeedPort + Send, W: Workplace + Send, R: Threads + Wait + Sync, J: FnMut() -> T, T>(
+/// A worker for each listener, each in a thread of its own, which serves this many connections by
+/// the port or the screen of the listener's place; and the job in this thread. They end as the
+/// first worker in order that stopped early, and are done if none did.
+pub fn work_all<
+    S: Send,
+    K: Server<S> + Sync,
+    W: Workplace + Send,
+    R: Threads + Wait + Sync,
+    J: FnMut() -> T,
+    T,
+>(
     rt: &R,
     alloc: Global,
-    ports: &mut [P],
+    server: &K,
+    owns: &mut [S],
     listeners: &mut [W],
     connections: u32,
     job: &mut J,
 ) -> (WorkEnd, T)
-    requires each { length ports.old ≡ length listeners.old }
+    requires each { length owns.old ≡ length listeners.old }
     requires job { J.pre job.old }
-    ensures works { WorkAll W.states W.state P.port P.fixed
-        (λ port. fed_kind P.asks (P.feeds (P.fixed port)) (P.airport_of port)) connections
-        ports.old listeners.old ports.new listeners.new result.0 }
+    ensures works { WorkAll (K.serves W.states) K.fixed K.state W.state connections
+        owns.old listeners.old owns.new listeners.new result.0 }
     ensures job { J.step job.old result.1 job.new }
 {
     if listeners.is_empty() {
         return (WorkEnd::Done, job());
     }
-    let (port, others) = ports.split_at_mut(1);
+    let (own, others) = owns.split_at_mut(1);
     let (first, rest) = listeners.split_at_mut(1);
     let (one, (end, done)) = work_beside(
         rt,
         alloc,
-        port,
+        server,
+        own,
         first,
         connections,
         &mut ||
-            requires { IsSync R.row × (length others.now ≡ length rest.now) × J.pre job.now }
-            ensures works { WorkAll W.states W.state P.port P.fixed
-                (λ port. fed_kind P.asks (P.feeds (P.fixed port)) (P.airport_of port)) connections
+            requires { IsSync R.row × IsSync K.row × (length others.now ≡ length rest.now)
+                × J.pre job.now }
+            ensures works { WorkAll (K.serves W.states) K.fixed K.state W.state connections
                 others.entry.now rest.entry.now others.exit.now rest.exit.now result.0 }
             ensures job { J.step job.entry.now result.1 job.exit.now }
-        { work_all(rt, alloc, others, rest, connections, job) },
+        { work_all(rt, alloc, server, others, rest, connections, job) },
     );
     (first_end(one, end), done)
 }

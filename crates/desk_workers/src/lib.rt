@@ -1,20 +1,21 @@
-//! Workers that serve desks in turns at one machine: a board, or a board with watches, which answers
-//! feeds too. A desk asks through a `DeskPort`: that of its seat, or that of a machine which it has
-//! to itself. A worker serves a listener's connections over a `FeedPort`. The workers of all
-//! listeners at one machine have a thread each, and a job may run beside them. The crate knows
-//! nothing of the command line and of sockets, nor of what a machine adds to its board.
+//! Workers that serve desks in turns at one machine: a board with watches, alone or with something
+//! around it. A desk asks through a port: that of its seat, or that of a machine which it has to
+//! itself. A worker serves a listener's connections, by such a port or by what else a `Server`
+//! serves by. Several workers have a thread each, and a job may run beside them. The crate knows
+//! nothing of the command line and of sockets, nor of what is around a board.
 #![tactic(auto)]
 
 mod alone;
 mod crew;
 mod machine;
+mod seat_port;
 mod served;
 mod watched;
 mod worker;
 
 pub use alone::AlonePort;
-pub use crew::{Workplace, first_end, serve_board};
-pub use machine::{DeskMachine, FeedMachine};
-pub use served::{SeatPort, Served};
-pub use watched::{watch_ask_of, watch_feed};
-pub use worker::{WorkEnd, work};
+pub use crew::{Workplace, first_end, serve_board, work_all};
+pub use machine::DeskMachine;
+pub use seat_port::SeatPort;
+pub use served::Served;
+pub use worker::{Server, WorkEnd, work};

@@ -4,7 +4,7 @@ use Rattle.std.proofs.lemmas.Result.{IfOk-weaker}
 use Rattle.apron_base.specs.Keeper.{KeeperState}
 use Rattle.apron_base.specs.Listener.{ListenerState}
 use Rattle.desk_http.specs.Session.{SessionKind}
-use Rattle.desk_workers.specs.Crew.{ServesBoard, Worker, WorksAt}
+use Rattle.desk_workers.specs.Crew.{DeskWorker, ServesBoard, WorksAt}
 use Rattle.desk_workers.specs.Feeds.{seat_sessions}
 use Rattle.desk_workers.specs.Watched.{fed_sessions, feed_texts, watch_text}
 use Rattle.desk_workers.specs.Work.{EndStates}
@@ -23,7 +23,7 @@ hall_sessions tells fixed = seat_sessions (watch_text tells fixed.watched) fixed
 
 module _ {In Out K R : Type 0} (states : EndStates In Out) (asked : ℕ) (keeper : K → KeeperState) (tells : R → Note → Bool) (before left : HallHeld K R) where
   -- a worker at the board
-  works_plainly : (worker : Worker In Out) → WorksAt states (hall_sessions tells) asked (hall_state keeper before) (hall_state keeper left) worker
+  works_plainly : (worker : DeskWorker In Out) → WorksAt states (hall_sessions tells) asked (hall_state keeper before) (hall_state keeper left) worker
       → WorksAt states (fed_sessions (feed_texts tells before.board.watches)) asked (record (machine_state keeper before.board.board) { next = before.board.next })
       (machine_state keeper left.board.board) worker
   works_plainly worker at = record { fresh = at.fresh; works = at.works; seen = at.seen }

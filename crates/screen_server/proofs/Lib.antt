@@ -1,6 +1,5 @@
 mod Boards
 mod Kept
 mod Lasting
-mod Looking
 mod Screens
 mod Together

@@ -1,18 +1,16 @@
 -- What the workers of several screens do.
-use Rattle.std.specs.Prelude.{◌≡◌, ℕ, List, [], ◌∷◌, map}
+use Rattle.std.specs.Prelude.{◌≡◌, ℕ, List, map}
 use Rattle.apron_base.specs.Histories.{Every}
 use Rattle.apron_base.specs.Listener.{ListenerState}
-use Rattle.desk_workers.specs.Crew.{end_of}
-use Rattle.desk_workers.specs.Work.{EndStates}
+use Rattle.desk_workers.specs.Crew.{Worker, end_of}
+use Rattle.desk_workers.specs.Work.{EndStates, Works}
 use Rattle.desk_workers.specs.declared.worker.WorkEnd.{WorkEnd}
 use Rattle.screen_feed.specs.Screens.{ScreenState}
-use Rattle.screen_server.specs.Looks.{ShowsOn, WallState}
+use Rattle.screen_server.specs.Looks.{HasLook}
 
--- a worker of a screen: its listener and its screen before and after, and how it ended
-pub record ScreenWorker (In Out : Type 0) : Type 0 where
-  pub before : WallState In Out
-  pub after : WallState In Out
-  pub end : WorkEnd
+-- a worker that shows a screen
+abbrev pub ScreenWorker : Type 0 → Type 0 → Type 0
+ScreenWorker In Out = Worker In Out ScreenState
 
 -- listeners, and the screens that are shown on them
 pub record WallsState (In Out : Type 0) : Type 0 where
@@ -29,8 +27,8 @@ walls_of state walls screens = record { listeners = map state walls; screens = s
 pub record ShowsAll {In Out : Type 0} (states : EndStates In Out) (asked : ℕ)
     (before after : WallsState In Out) (end : WorkEnd) : Type 0 where
   pub workers : List (ScreenWorker In Out)
-  pub looks : before.screens ≡ map (λ (worker : ScreenWorker In Out). worker.before.screen) workers
-  pub seen : after.screens ≡ map (λ (worker : ScreenWorker In Out). worker.after.screen) workers
+  pub looks : before.screens ≡ map (λ (worker : ScreenWorker In Out). worker.before.own) workers
+  pub seen : after.screens ≡ map (λ (worker : ScreenWorker In Out). worker.after.own) workers
   pub begun : before.listeners
       ≡ map (λ (worker : ScreenWorker In Out). worker.before.listener) workers
   pub ended : after.listeners
@@ -38,16 +36,4 @@ pub record ShowsAll {In Out : Type 0} (states : EndStates In Out) (asked : ℕ)
   pub end_is : end ≡ end_of (map (λ (worker : ScreenWorker In Out). worker.end) workers)
   pub work : Every
       (λ (worker : ScreenWorker In Out).
-      ShowsOn states asked worker.before worker.after worker.end) workers
-
-module _ {In Out L : Type 0} (states : EndStates In Out) (state : L → ListenerState In Out)
-    (asked : ℕ) where
-  -- each of these screens was shown on the listener of its place, which its worker left so, and
-  -- ended so
-  abbrev pub ShowsEach : List ScreenState → List L → List ScreenState → List L → WorkEnd → Type 0
-  ShowsEach [] [] [] [] end = Unit {0}
-  ShowsEach (screen ∷ screens) (wall ∷ walls) (seen ∷ left) (shown ∷ others) end =
-      ShowsOn states asked (record { listener = state wall; screen = screen })
-      (record { listener = state shown; screen = seen }) end
-      × ShowsEach screens walls left others end
-  ShowsEach screens walls left others end = ⊥
+      Works (HasLook states) asked worker.before worker.after worker.end) workers

@@ -4,9 +4,7 @@
 
 mod look;
 mod shown;
-mod wall;
 mod walls;
 mod writers;
 
 pub use shown::{ShownEnd, Task, serve_hall, serve_watched};
-pub use wall::Wall;

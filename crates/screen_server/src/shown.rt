@@ -11,12 +11,11 @@ ghost use Rattle.turn_board.specs.Views.{all_shares};
 ghost use Rattle.screen_server.specs.Shown.{Opened, ShowsFrom};
 ghost use Rattle.screen_server.specs.Walls.{ShowsAll, walls_of};
 
-use crate::wall::Wall;
 use crate::walls::show_all;
 use crate::writers::writers_of;
 use apron_base::{Keeper, Memory};
 use apron_rules::Airport;
-use desk_workers::{WorkEnd, serve_board};
+use desk_workers::{WorkEnd, Workplace, serve_board};
 use screen_feed::Screen;
 use shown_board::Hall;
 use std::alloc::Global;
@@ -40,15 +39,15 @@ pub struct ShownEnd {
 
 /// Serves the connections of desks at a board with watches that was just opened, and beside them
 /// those of screens, which show a day of its plan; each listener by a worker in a thread of its
-/// own. It gives back the hall in which the board has been since, with a writer for each screen. At
-/// `Err` there is no memory, and no listener was called.
+/// own. It gives back the hall in which the board has been since, which at `Ok` has a writer for
+/// each screen. At `Err` there is no memory, and no listener was called.
 pub fn serve_watched<
     'a,
     Rt: Threads + Wait + Sync,
     K: Keeper + Send,
     R: Stated + Sync,
     T: NoteTest + Sync,
-    W: Wall + Send,
+    W: Workplace + Send,
 >(
     rt: &'a Rt,
     alloc: Global,
@@ -120,7 +119,7 @@ pub fn serve_hall<
     K: Keeper + Send,
     R: Stated + Sync,
     T: NoteTest + Sync,
-    W: Wall + Send,
+    W: Workplace + Send,
 >(
     rt: &'a Rt,
     alloc: Global,
@@ -166,7 +165,7 @@ pub fn serve_hall<
         ensures shows { ShowsAll W.states connections
             (walls_of W.state walls.entry.now screens.entry.now)
             (walls_of W.state walls.exit.now screens.exit.now) result }
-    { show_all(rt, screens, walls, connections) };
+    { show_all(rt, alloc, screens, walls, connections) };
     let (ended, mut hall) = serve_board(rt, alloc, airport, hall, listeners, connections, &mut job);
     match ended {
         Ok((desks, looks)) => {

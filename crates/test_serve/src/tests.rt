@@ -8,8 +8,8 @@ mod statuses;
 use apron_base::{ListListener, ListSink, ListSource, MapShelf, Memory};
 use apron_run::run;
 use apron_serve::serve;
+use desk_workers::Workplace;
 use journal_disk::{Disk, MemoryDisk};
-use screen_server::Wall;
 use std::alloc::Global;
 use std::sync::Wait;
 use std::test::Fail;
@@ -139,7 +139,7 @@ fn is_at<D: Disk>(alloc: Global, disk: &mut D, version: &[u8]) -> Result<bool, M
 
 // Serves at these listeners. It gives whether the status and the printed line are these, and the
 // disk.
-fn served<L: Wall + Send, D: Disk + Drop + Send, R: Wait + Threads + Sync>(
+fn served<L: Workplace + Send, D: Disk + Drop + Send, R: Wait + Threads + Sync>(
     rt: &R,
     alloc: Global,
     texts: &str,

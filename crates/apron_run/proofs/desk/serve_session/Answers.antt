@@ -15,18 +15,22 @@ returns-clause-does g c = λ shelf.
     let made : opened ≡ record { board = opened.board; watches = c.args.watches.now; next = opened.board.next } =
     ap₂ (λ watches next. record { board = opened.board; watches = watches; next = next }) c.in-Ok.ensures.watches c.in-Ok.ensures.next in
     let left = done.machine.board in
-    let back = c.into_board-board.ensures.value ∙ ap (λ m. m.board) c.into_machine.ensures.machine in (
-      refl {a = shelf},
-      desk_serves (journal_tells g.D.Disk.state) g.R.Stated.tells c.args.watches.now c.args.files.now before after c.in-Ok.watched.board c.new-desk.result done
-          c.session_fed-outcome.result
-          (opened_from (journal_tells g.D.Disk.state) c.args.files.now g.N.OfFiles.begun (g.D.Disk.state c.args.disk) c.in-Ok.watched.board c.requires.begun c.in-Ok.ensures.opened)
-          (c.new-desk.ensures.machine ∙ made)
-          (c.new-desk.ensures.first ∙ c.in-Ok.ensures.next) c.session_fed-outcome.ensures.of c.session_fed-outcome.ensures.fixed
-          (ap (λ d. (g.D.Disk.state d).faults) (c.close_board.ensures.disk ∙ ap (λ b. b.keeper.disk) back))
-          (subst (λ (digests : List ℕ). KeepsHistory (record { airport = left.airport; digests = digests }) left.history left.at_risk after.disk) (sym c.requires.digests)
-          (subst (λ b. KeepsHistory (record { airport = b.airport; digests = g.N.OfFiles.digests }) b.history b.at_risk after.disk) back c.close_board.ensures.keeps))
-          (subst (λ (digests : List ℕ). Survives digests left.history left.at_risk g.N.OfFiles.begun (g.D.Disk.state c.close_board.result)) (sym c.requires.digests)
-          (subst (λ b. Survives g.N.OfFiles.digests b.history b.at_risk g.N.OfFiles.begun (g.D.Disk.state c.close_board.result)) back c.close_board.ensures.survives)),
+    let back = c.into_board-board.ensures.value ∙ ap (λ m. m.board) c.into_machine.ensures.machine in
+    let from = opened_from (journal_tells g.D.Disk.state) c.args.files.now g.N.OfFiles.begun (g.D.Disk.state c.args.disk) opened.board c.requires.begun c.in-Ok.ensures.opened in (
+      opened.board.history,
+      from.opens,
+      (
+        refl {a = shelf},
+        desk_serves (journal_tells g.D.Disk.state) g.R.Stated.tells c.args.watches.now c.args.files.now before after opened.board c.new-desk.result done
+            c.session_fed-outcome.result from
+            (c.new-desk.ensures.machine ∙ made)
+            (c.new-desk.ensures.first ∙ c.in-Ok.ensures.next) c.session_fed-outcome.ensures.of c.session_fed-outcome.ensures.fixed
+            (ap (λ d. (g.D.Disk.state d).faults) (c.close_board.ensures.disk ∙ ap (λ b. b.keeper.disk) back))
+            (subst (λ (digests : List ℕ). KeepsHistory (record { airport = left.airport; digests = digests }) left.history left.at_risk after.disk) (sym c.requires.digests)
+            (subst (λ b. KeepsHistory (record { airport = b.airport; digests = g.N.OfFiles.digests }) b.history b.at_risk after.disk) back c.close_board.ensures.keeps))
+            (subst (λ (digests : List ℕ). Survives digests left.history left.at_risk g.N.OfFiles.begun (g.D.Disk.state c.close_board.result)) (sym c.requires.digests)
+            (subst (λ b. Survives g.N.OfFiles.digests b.history b.at_risk g.N.OfFiles.begun (g.D.Disk.state c.close_board.result)) back c.close_board.ensures.survives)),
+      ),
     )
 
 pub returns-in-Err-clause-does : goal.returns-in-Err-clause-does

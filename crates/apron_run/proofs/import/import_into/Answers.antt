@@ -14,17 +14,24 @@ returns g c = record {
       let before : World = world_at (g.F.Shelf.state c.args.shelf.now) source sink g.N.OfFiles.begun in
       let after : World = world_at (g.F.Shelf.state c.add_season-imported.new.shelf) source sink (g.D.Disk.state c.close_board.result) in
       let left = c.add_season-imported.new.board in
-      let imports : ImportsSeason c.args.files.now c.text.result.now before after c.add_season-imported.result =
+      let from = opened_from (journal_tells g.D.Disk.state) c.args.files.now g.N.OfFiles.begun (g.D.Disk.state c.args.disk) c.in-Ok.board c.requires.begun c.in-Ok.ensures.opened in
+      let imports : ImportsSeason c.text.result.now c.args.files.now c.in-Ok.board.history before after c.add_season-imported.result =
       season_imported (journal_tells g.D.Disk.state) c.args.files.now c.text.result.now before after c.in-Ok.board left
-      c.add_season-imported.result
-      (opened_from (journal_tells g.D.Disk.state) c.args.files.now g.N.OfFiles.begun (g.D.Disk.state c.args.disk) c.in-Ok.board c.requires.begun c.in-Ok.ensures.opened)
+      c.add_season-imported.result from
       c.add_season-imported.ensures.adds c.add_season-imported.ensures.airport
       (sym (ap (λ d. (g.D.Disk.state d).faults) c.close_board.ensures.disk))
       (subst (λ (digests : List ℕ). KeepsHistory (record { airport = left.airport; digests = digests }) left.history left.at_risk after.disk)
       (sym c.requires.digests) c.close_board.ensures.keeps)
       (subst (λ (digests : List ℕ). Survives digests left.history left.at_risk before.disk after.disk)
-      (sym c.requires.digests) c.close_board.ensures.survives) in
-      (refl, refl, subst (λ (season : List ℕ). ImportsSeason c.args.files.now season before after c.add_season-imported.result) c.text.ensures.text imports);
+      (sym c.requires.digests) c.close_board.ensures.survives) in (
+        c.in-Ok.board.history,
+        from.opens,
+        (
+          refl,
+          refl,
+          subst (λ (season : List ℕ). ImportsSeason season c.args.files.now c.in-Ok.board.history before after c.add_season-imported.result) c.text.ensures.text imports,
+        ),
+      );
 }
 
 pub returns-in-Err : goal.returns-in-Err

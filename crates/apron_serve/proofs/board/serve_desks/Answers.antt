@@ -65,7 +65,10 @@ returns-in-Err-served g c =
     record {
       meets = λ shelf source sink. record {
         noted = refl;
-        meets = turns_want_memory (journal_tells g.D.Disk.state) c.args.files.now (world_at shelf source sink begun)
+        meets = turns_want_memory (record { states = g.L.Workplace.states; feeds = feed_texts g.R.Stated.tells c.args.watches.now }) (journal_tells g.D.Disk.state) c.args.task
+            (record { listeners = map g.L.Workplace.state c.args.listeners.now; screens = map g.L.Workplace.state c.args.screens.now })
+            (record { listeners = map g.L.Workplace.state c.serve_watched-served.new.listeners; screens = map g.L.Workplace.state c.serve_watched-served.new.walls })
+            c.args.files.now (world_at shelf source sink begun)
             (g.D.Disk.state c.close_board-in-Err-served.result) c.in-Ok.board.board
             (opened_from (journal_tells g.D.Disk.state) c.args.files.now begun opened c.in-Ok.board.board c.requires.begun c.in-Ok.ensures.opened)
             (stays_both begun opened (g.D.Disk.state c.close_board-in-Err-served.result) (let unwritten = c.requires.begun in unwritten.stays)

@@ -6,7 +6,7 @@ use Rattle.desk_workers.proofs.crew.serve_board.Goals as goal
 
 pub returns-in-Ok-new-clause-serves : goal.returns-in-Ok-new-clause-serves
 returns-in-Ok-new-clause-serves g c =
-    let kinds : g.row.M-Fixed.Denot → SessionKind = λ fixed. seat_sessions (g.M.FeedMachine.feed_text fixed) (g.M.DeskMachine.airport fixed) in
+    let kinds : g.row.M-Fixed.Denot → SessionKind = λ fixed. seat_sessions (g.M.DeskMachine.feed_text fixed) (g.M.DeskMachine.airport fixed) in
     let olds = map g.W.Workplace.state c.args.listeners.now in
     let news = map g.W.Workplace.state c.work_in_turns-ends.new.listeners in
     let end = c.work_in_turns-ends.result.0 in
