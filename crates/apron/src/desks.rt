@@ -244,7 +244,10 @@ fn bound_listeners<'a, R: Eprint + Net<Listener = TcpListener, Stream = TcpStrea
     };
     let desks = all_beside(rt, alloc, order.desks, &first, Some(opening))?;
     let are_all = are_listening(rt, order.desks.address, desks.as_slice())
-        && are_listening(rt, order.desks.address, screens.as_slice());
+        && match order.screens {
+            Some(at) => are_listening(rt, at.address, screens.as_slice()),
+            None => true,
+        };
     Ok(if are_all {
         Some(Listeners { desks, screens })
     } else {

@@ -4,14 +4,11 @@ use airport_files::{FileFault, read_airport};
 use apron_base::{Memory, Shelf, ShelfFault, Word};
 use apron_check::{AirportFiles, MAX_FILE, airport_of};
 use apron_rules::Airport;
-use apron_run::Status;
+use apron_run::{MAX_SEASON, Status};
 use file_faults::{airport_fault, dates_of_season, season_fault, season_row_there, types_fault};
 use std::alloc::Global;
 use std::rt::Files;
 use system_files::FileShelf;
-
-/// The most bytes of a season file: 16 MiB.
-const MAX_SEASON: u32 = 16_777_216;
 
 /// Says which line of which file is wrong, and why, if the status is that of an airport file's or a
 /// type file's fault. If memory runs out, only the line on standard output says it.

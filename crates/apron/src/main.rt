@@ -105,8 +105,8 @@ fn run_program(rt: &HostRuntime, words: &[Word], watches: &Watches<Shown, Shown>
     status
 }
 
-// Words that have a journal have its path last. Others get no disk, and so do no words, which is
-// what words come to that are too few or too many.
+// Words that have a journal have its path last. Others get no disk, and so does an empty list of
+// words, which stands for words that are too few or too many.
 fn run_with_journal(
     rt: &HostRuntime,
     words: &[Word],
