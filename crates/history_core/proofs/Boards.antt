@@ -9,7 +9,7 @@ use Rattle.visit_book.specs.Numbers.{IsNumbered}
 use Rattle.plan_core.specs.PlanState.{PlanState, empty_plan}
 use Rattle.desk_asks.specs.Commands.{IsCommandOf}
 use Rattle.desk_asks.specs.declared.asks.Entry.{Entry}
-use Rattle.entry_bytes.specs.Entries.{IsEntryOf, entry_text}
+use Rattle.entry_bytes.specs.Entries.{SpellsEntry}
 use Rattle.history_core.specs.AtRisk.{entry_read}
 use Rattle.history_core.specs.Board.{BoardHeld, IsBoard}
 use Rattle.history_core.specs.Bumped.{last_bumped}
@@ -64,13 +64,13 @@ pub record IsNext {K : Type 0} (board : BoardHeld K) (entry : Entry) : Type 0 wh
 
 -- a board after one more entry, by this call, which its keeper has
 pub board_pushed : {K : Type 0} (plan new : PlanState) (bumped lost : List PartId) (first before after : KeeperState) (board : BoardHeld K) (keeper : K)
-    (history : List Entry) (entry : Entry)
-    → IsBoard plan bumped first board → IsNext board entry → IsEntryOf board.airport entry → before ≡ record first { room = before.room }
-    → AddsEntry before after (entry_text entry)
+    (history : List Entry) (entry : Entry) (bytes : List ℕ)
+    → IsBoard plan bumped first board → IsNext board entry → SpellsEntry board.airport bytes entry → before ≡ record first { room = before.room }
+    → AddsEntry before after bytes
     → history ≡ board.history ++ entry ∷ [] → new ≡ after_command (replay board.airport board.history) entry.command
     → lost ≡ last_bumped new
     → IsBoard new lost after (record { keeper = keeper; airport = board.airport; history = history; at_risk = entry_read board.airport after.at_risk; next = entry.call + 1 })
-board_pushed plan new bumped lost first before after board keeper history entry h next entry_is ready adds history_is is lost_is =
+board_pushed plan new bumped lost first before after board keeper history entry bytes h next spells ready adds history_is is lost_is =
     let last : entry.call < call_limit = next.last in
     subst (λ (es : List Entry). IsBoard new lost after (record { keeper = keeper; airport = board.airport; history = es; at_risk = entry_read board.airport after.at_risk; next = entry.call + 1 })) (sym history_is)
     (record {
@@ -80,16 +80,17 @@ board_pushed plan new bumped lost first before after board keeper history entry 
       numbers = rises_push call_of 1 board.next (entry.call + 1) board.history entry h.numbers next.up (omega arith);
       calls = omega arith;
       kept = kept_read board.airport (board.history ++ entry ∷ []) None after
-          (kept_added board.airport board.history board.at_risk before after entry (kept_ready board.airport board.history board.at_risk first before h.kept ready) entry_is adds);
+          (kept_added board.airport board.history board.at_risk before after entry (kept_ready board.airport board.history board.at_risk first before h.kept ready) spells.0
+          (subst (AddsEntry before after) spells.1 adds));
     })
 
 -- a board after an ask whose append failed
 pub board_failed : {K : Type 0} (plan same : PlanState) (bumped : List PartId) (first before after : KeeperState) (board : BoardHeld K) (keeper : K)
-    (history : List Entry) (entry : Entry)
-    → IsBoard plan bumped first board → IsNext board entry → IsEntryOf board.airport entry → before ≡ record first { room = before.room }
-    → FailsToAdd before after (entry_text entry) → history ≡ board.history → same ≡ plan
+    (history : List Entry) (entry : Entry) (bytes : List ℕ)
+    → IsBoard plan bumped first board → IsNext board entry → SpellsEntry board.airport bytes entry → before ≡ record first { room = before.room }
+    → FailsToAdd before after bytes → history ≡ board.history → same ≡ plan
     → IsBoard same bumped after (record { keeper = keeper; airport = board.airport; history = history; at_risk = entry_read board.airport after.at_risk; next = board.next })
-board_failed plan same bumped first before after board keeper history entry h next entry_is ready fails history_is plan_is =
+board_failed plan same bumped first before after board keeper history entry bytes h next spells ready fails history_is plan_is =
     subst (λ (es : List Entry). IsBoard same bumped after (record { keeper = keeper; airport = board.airport; history = es; at_risk = entry_read board.airport after.at_risk; next = board.next })) (sym history_is)
     (record {
       legal = h.legal;
@@ -97,6 +98,6 @@ board_failed plan same bumped first before after board keeper history entry h ne
       bumped_is = h.bumped_is ∙ ap last_bumped (sym plan_is);
       numbers = h.numbers;
       calls = h.calls;
-      kept = kept_failed board.airport board.history board.at_risk before after entry (kept_ready board.airport board.history board.at_risk first before h.kept ready) entry_is
-          (legal_pushed board.airport board.history board.next entry h.legal h.numbers next.valid next.steps next.up next.last) fails;
+      kept = kept_failed board.airport board.history board.at_risk before after entry (kept_ready board.airport board.history board.at_risk first before h.kept ready) spells.0
+          (legal_pushed board.airport board.history board.next entry h.legal h.numbers next.valid next.steps next.up next.last) (subst (FailsToAdd before after) spells.1 fails);
     })

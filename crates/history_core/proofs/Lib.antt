@@ -11,9 +11,9 @@ pub mod NewVisits
 pub mod Bumps
 pub mod Takings
 pub mod Keepers
-pub mod Risks
+pub mod Acts
 pub mod Boards
 pub mod Openings
-pub mod Texts
+pub mod Replies
 pub mod Crosses
 pub mod Desks

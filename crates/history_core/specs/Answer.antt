@@ -1,5 +1,5 @@
 -- What an ask is given at a history.
-use Rattle.std.specs.Prelude.{◌≡◌, ℕ, nat_lt, Bool, true, false, List, [], ◌∷◌, ◌++◌, length, Option, None, Some, Result, Ok, Err, if◌then◌else◌}
+use Rattle.std.specs.Prelude.{◌≡◌, ℕ, nat_lt, List, [], ◌∷◌, ◌++◌, length, Option, None, Some, if◌then◌else◌}
 use Rattle.apron_base.specs.declared.outside.Acted.{Acted}
 use Rattle.apron_base.specs.declared.outside.Acted.TheVariants.{Reply as Replied, Memory as NoMemory, Fault}
 use Rattle.apron_rules.specs.declared.parts.AirportParts.{AirportParts}
@@ -21,8 +21,6 @@ use Rattle.plan_lists.specs.Held.{held_on}
 use Rattle.plan_lists.specs.OfDay.{visits_on}
 use Rattle.plan_lists.specs.Unplaced.{unplaced_parts}
 use Rattle.wall_chart.specs.Chart.{chart_text}
-use Rattle.history_core.specs.declared.ask_fault.AskFault.{AskFault}
-use Rattle.history_core.specs.declared.ask_fault.AskFault.TheVariants as unanswered
 use Rattle.history_core.specs.Acceptance.{Stepped, TakenAs, accepted, reply_at, stepped_reply}
 use Rattle.history_core.specs.History.{IsLegal, entry_at, replay}
 
@@ -121,12 +119,18 @@ acted_from airport (replied reply) = Replied (reply_text airport reply)
 acted_from airport no_memory = NoMemory
 acted_from airport keeper_fault = Fault
 
+-- an act shows what is given for what is sought with this call number at the history before it, and
+-- leaves the history after it
+abbrev pub ActsOn : AirportParts → List Entry → ℕ → Sought → Acted → List Entry → Type 0
+ActsOn airport before call asked acted after =
+    (given : Given)
+    × (acted ≡ acted_from airport given)
+    × GivesAt (replay airport before) before call asked given after
+
 -- an act that got its turn shows what the ask is given
 abbrev pub ActsAs : AirportParts → List Entry → ℕ → Ask → Acted → List Entry → Type 0
 ActsAs airport before call ask acted after =
-    (given : Given)
-    × (acted ≡ acted_from airport given)
-    × GivesAnswer airport before call ask given after
+    ActsOn airport before call (ask_outcome (replay airport before) before ask) acted after
 
 -- the same for an act that found a legal history and left one
 pub record ActsLegally (airport : AirportParts) (before : List Entry) (call : ℕ) (ask : Ask)
@@ -134,32 +138,3 @@ pub record ActsLegally (airport : AirportParts) (before : List Entry) (call : �
   pub found : IsLegal airport before
   pub acts : ActsAs airport before call ask acted after
   pub left : IsLegal airport after
-
--- the bytes are those of the plan's reply to what is sought with this call number, with the history
--- before and after it
-abbrev pub TextOf : PlanState → List Entry → ℕ → Sought → List ℕ → List Entry → Type 0
-TextOf plan before call asked bytes after =
-    (reply : Reply)
-    × (bytes ≡ reply_text plan.airport reply)
-    × Replies plan before call asked reply after
-
--- what comes of what is sought with this call number, with the history before and after it: the
--- bytes of the plan's reply, or none if there is no memory or the append of an accepted command
--- failed
-abbrev pub GivesText : PlanState → List Entry → ℕ → Sought → Result (List ℕ) AskFault → List Entry
-    → Type 0
-GivesText plan before call asked (Ok bytes) after = TextOf plan before call asked bytes after
-GivesText plan before call asked (Err unanswered.Memory) after = after ≡ before
-GivesText plan before call asked (Err unanswered.Fault) after =
-    IsAccepted plan (length before) asked × (after ≡ before)
-
--- an append failed
-abbrev pub is_keeper_fault : Result (List ℕ) AskFault → Bool
-is_keeper_fault (Err unanswered.Fault) = true
-is_keeper_fault _ = false
-
--- how an act shows what came of it
-abbrev pub acted_of : Result (List ℕ) AskFault → Acted
-acted_of (Ok bytes) = Replied bytes
-acted_of (Err unanswered.Memory) = NoMemory
-acted_of (Err unanswered.Fault) = Fault

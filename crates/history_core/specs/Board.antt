@@ -1,5 +1,5 @@
 -- A board as contracts see it, and what its keeper exposes.
-use Rattle.std.specs.Prelude.{◌≡◌, ◌≤◌, ℕ, List, map, length, Option, IfSome, None}
+use Rattle.std.specs.Prelude.{◌≡◌, ◌≤◌, ◌+◌, ℕ, List, map, length, Option, IfSome, None}
 use Rattle.std.specs.Option.{option_map}
 use Rattle.apron_base.specs.Counts.{Counts}
 use Rattle.apron_base.specs.Histories.{Every, Rises}
@@ -11,8 +11,9 @@ use Rattle.apron_rules.specs.declared.parts.AirportParts.{AirportParts}
 use Rattle.plan_core.specs.PlanState.{PlanState}
 use Rattle.desk_asks.specs.declared.asks.Ask.{Ask}
 use Rattle.desk_asks.specs.declared.asks.Entry.{Entry}
+use Rattle.desk_asks.specs.declared.asks.What.{What}
 use Rattle.entry_bytes.specs.Entries.{IsEntryOf, entry_text}
-use Rattle.history_core.specs.Answer.{ActsAs, IsTold, ask_outcome}
+use Rattle.history_core.specs.Answer.{ActsAs, ActsOn, IsTold, Sought, ask_outcome}
 use Rattle.history_core.specs.AtRisk.{LeavesAtRisk}
 use Rattle.history_core.specs.Bumped.{last_bumped}
 use Rattle.history_core.specs.History.{IsLegal, call_limit, call_of, replay}
@@ -75,6 +76,19 @@ machine_state tells board = record {
   next = board.next;
   faults = (tells board.keeper).faults;
 }
+
+-- What an act with this call number does to a board, by what its keeper exposes: it shows what is
+-- given for what is sought. The keeper failed exactly if the act says so, and then the entry that
+-- was asked for may be at risk. The airport stays, and the next call may have the number after this
+-- one.
+pub record ActsOnBoard {K : Type 0} (tells : K → KeeperState) (before after : BoardHeld K)
+    (call : ℕ) (what : What) (asked : Sought) (acted : Acted) : Type 0 where
+  pub acts : ActsOn before.airport before.history call asked acted after.history
+  pub airport : after.airport ≡ before.airport
+  pub faults : Counts (is_fault acted) (tells before.keeper).faults (tells after.keeper).faults
+  pub at_risk : LeavesAtRisk (history_at_risk_of (machine_state tells before)) call what
+      (is_fault acted) (history_at_risk_of (machine_state tells after))
+  pub next : after.next ≤ call + 1
 
 -- What an ask of this call number does to a board, by what its keeper exposes: it is answered at
 -- the board's history, which was legal and still is. The keeper failed exactly if the answer says

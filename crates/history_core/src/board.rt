@@ -1,21 +1,19 @@
 // The board.
 ghost use Rattle.std.specs.Prelude.{◌≡◌, ◌≤◌, ◌<◌, ◌+◌, IfErr, IfOk, IfSome, None, false, ℕ, length};
 ghost use Rattle.std.specs.Option.{option_copied};
-ghost use Rattle.apron_base.specs.Counts.{Counts};
 ghost use Rattle.apron_base.specs.Histories.{Rises};
-ghost use Rattle.apron_base.specs.Machine.{history_at_risk_of, is_fault};
 ghost use Rattle.desk_asks.specs.Commands.{IsCommandOf};
-ghost use Rattle.desk_words.specs.Replies.{IsTellable};
+ghost use Rattle.desk_words.specs.Replies.{IsTellable, reply_text};
+ghost use Rattle.entry_bytes.specs.Entries.{SpellsEntry};
+ghost use Rattle.entry_bytes.specs.Laws.{most_bytes};
 ghost use Rattle.history_core.specs.Acceptance.{TakenAs, accepted, stepped_reply};
 ghost use Rattle.history_core.specs.History.{IsAskOf, IsLegal, call_limit, call_of, replay};
 ghost use Rattle.history_core.specs.Bumped.{last_bumped};
-ghost use Rattle.history_core.specs.Answer.{GivesText, IsTold, acted_of, ask_outcome, changes, is_keeper_fault, told, visit_told};
-ghost use Rattle.history_core.specs.AtRisk.{LeavesAtRisk};
-ghost use Rattle.history_core.specs.Board.{AsksBoard, IsKeeperOf, entry_texts, machine_state};
+ghost use Rattle.history_core.specs.Answer.{IsTold, Replies, Sought, ask_outcome, changes, told, visit_told};
+ghost use Rattle.history_core.specs.Board.{ActsOnBoard, AsksBoard, IsKeeperOf, entry_texts};
 ghost use Rattle.history_core.specs.Opening.{CannotOpen, OpensBoard};
 ghost use Rattle.history_core.specs.Taking.{IsChangeOf};
 
-use crate::ask_fault::AskFault;
 use crate::bumped::bumped_in;
 use crate::opening::{OpenFault, Opening, opening_of};
 use crate::questions::{chart_told, day_told, entry_told, plan_told, unplaced_told};
@@ -156,96 +154,81 @@ impl<'a, K: Keeper> Board<'a, K> {
         ensures next { self.new.next ≡ call + 1 }
         ensures numbers { Rises call_of 1 self.new.next self.new.history }
     {
-        let answered = self.answer(alloc, call, ask);
+        let acted = self.answer(alloc, call, ask);
         self.next = call + 1;
-        acted_of(answered)
+        acted
     }
 
-    // The bytes of the reply to an ask. At `Err` the history and the plan are as before.
-    fn answer(&mut self, alloc: Global, call: u64, ask: &Ask) -> Result<Listed<u8>, AskFault>
+    // The answer to an ask. At any but a reply the history and the plan are as before.
+    fn answer(&mut self, alloc: Global, call: u64, ask: &Ask) -> Acted
         requires valid { IsAskOf self.old.airport ask.now }
         requires next { self.old.next ≤ call }
         requires last { call < call_limit }
-        ensures airport { self.new.airport ≡ self.old.airport }
-        ensures next { self.new.next ≤ call + 1 }
-        ensures gives { let plan = replay self.old.airport self.old.history in
-            GivesText plan self.old.history call (ask_outcome plan self.old.history ask.now)
-            result self.new.history }
-        ensures faults { Counts (is_keeper_fault result) (K.state self.old.keeper).faults
-            (K.state self.new.keeper).faults }
-        ensures at_risk { LeavesAtRisk (history_at_risk_of (machine_state K.state self.old)) call
-            ask.now.what (is_keeper_fault result)
-            (history_at_risk_of (machine_state K.state self.new)) }
+        ensures acts { let plan = replay self.old.airport self.old.history in
+            ActsOnBoard K.state self.old self.new call ask.now.what
+            (ask_outcome plan self.old.history ask.now) result }
         ensures question { let plan = replay self.old.airport self.old.history in
             IsTold (ask_outcome plan self.old.history ask.now) → self.new ≡ self.old }
     {
         if ask.seen > self.plan.version() {
-            return self.reply_with(alloc, ReplyBody::Ahead);
+            return self.reply_with(alloc, Ok(ReplyBody::Ahead));
         }
-        match &ask.what {
-            What::Change(command) => self.change(alloc, call, command),
-            What::Version => self.reply_with(alloc, ReplyBody::Version),
-            What::Visit(number) => self.reply_with(
-                alloc,
-                visit_told(self.plan.visit(VisitNo(*number))),
-            ),
-            What::Plan(day) => self.reply_with(
-                alloc,
-                plan_told(alloc, self.airport, &self.plan, *day)?,
-            ),
-            What::Unplaced => self.reply_with(alloc, unplaced_told(alloc, &self.plan)?),
-            What::Chart(day) => {
-                self.reply_with(alloc, chart_told(alloc, self.airport, &self.plan, *day)?)
-            }
-            What::Entry(number) => self.reply_with(
-                alloc,
-                entry_told(self.history.as_slice(), *number),
-            ),
-            What::Airport => self.reply_with(alloc, ReplyBody::Airport),
-            What::Day(day) => self.reply_with(
-                alloc,
-                day_told(alloc, self.airport, &self.plan, *day)?,
-            ),
-        }
-    }
-
-    // A reply with this news, at the plan as it is.
-    fn reply_with(&self, alloc: Global, news: ReplyBody) -> Result<Listed<u8>, AskFault>
-        requires tellable { IsTellable news }
-        ensures gives { (call : ℕ) → let plan = replay self.now.airport self.now.history in
-            GivesText plan self.now.history call (told news) result self.now.history }
-        ensures no_fault { is_keeper_fault result ≡ false }
-    {
-        let reply = Reply {
-            version: self.plan.version(),
-            told: news,
+        let news = match &ask.what {
+            What::Change(command) => return self.change(alloc, call, command),
+            What::Version => Ok(ReplyBody::Version),
+            What::Visit(number) => Ok(visit_told(self.plan.visit(VisitNo(*number)))),
+            What::Plan(day) => plan_told(alloc, self.airport, &self.plan, *day),
+            What::Unplaced => unplaced_told(alloc, &self.plan),
+            What::Chart(day) => chart_told(alloc, self.airport, &self.plan, *day),
+            What::Entry(number) => Ok(entry_told(self.history.as_slice(), *number)),
+            What::Airport => Ok(ReplyBody::Airport),
+            What::Day(day) => day_told(alloc, self.airport, &self.plan, *day),
         };
-        Ok(reply_bytes(alloc, self.airport, &reply)?)
+        self.reply_with(alloc, news)
     }
 
-    fn change(
-        &mut self,
-        alloc: Global,
-        call: u64,
-        command: &Command,
-    ) -> Result<Listed<u8>, AskFault>
+    // A reply with this news at the plan as it is, or that there is no memory.
+    fn reply_with(&self, alloc: Global, news: Result<ReplyBody, Memory>) -> Acted
+        requires tellable { IfOk news IsTellable }
+        ensures acts { (call : ℕ) (what : What) (asked : Sought) → self.now.next ≤ call
+            → IfOk news (λ said. asked ≡ told said)
+            → ActsOnBoard K.state self.now self.now call what asked result }
+    {
+        match news {
+            Ok(told) => {
+                let version = self.plan.version();
+                self.reply(alloc, &Reply { version, told })
+            }
+            Err(Memory) => Acted::Memory,
+        }
+    }
+
+    // This reply, if there is memory for its bytes. The plan stays as it is.
+    fn reply(&self, alloc: Global, reply: &Reply) -> Acted
+        requires tellable { IsTellable reply.now.told }
+        ensures acts { (call : ℕ) (what : What) (asked : Sought) → self.now.next ≤ call
+            → Replies (replay self.now.airport self.now.history) self.now.history call asked
+            reply.now self.now.history
+            → ActsOnBoard K.state self.now self.now call what asked result }
+    {
+        match reply_bytes(alloc, self.airport, reply) {
+            Ok(bytes) => Acted::Reply(bytes),
+            Err(Memory) => Acted::Memory,
+        }
+    }
+
+    fn change(&mut self, alloc: Global, call: u64, command: &Command) -> Acted
         requires valid { IsCommandOf self.old.airport command.now }
         requires next { self.old.next ≤ call }
         requires last { call < call_limit }
-        ensures airport { self.new.airport ≡ self.old.airport }
-        ensures next { self.new.next ≤ call + 1 }
-        ensures gives { let plan = replay self.old.airport self.old.history in
-            GivesText plan self.old.history call (changes command.now) result self.new.history }
-        ensures faults { Counts (is_keeper_fault result) (K.state self.old.keeper).faults
-            (K.state self.new.keeper).faults }
-        ensures at_risk { LeavesAtRisk (history_at_risk_of (machine_state K.state self.old)) call
-            (What.Change command.now) (is_keeper_fault result)
-            (history_at_risk_of (machine_state K.state self.new)) }
+        ensures acts { ActsOnBoard K.state self.old self.new call (What.Change command.now)
+            (changes command.now) result }
     {
         let entries = self.history.as_slice().len();
-        match take_command(alloc, self.airport, &self.plan, entries, command)? {
-            Taken::Accepted(change, reply) => self.accept(alloc, call, command, change, reply),
-            Taken::Answered(reply) => Ok(reply_bytes(alloc, self.airport, &reply)?),
+        match take_command(alloc, self.airport, &self.plan, entries, command) {
+            Ok(Taken::Accepted(change, reply)) => self.accept(alloc, call, command, change, reply),
+            Ok(Taken::Answered(reply)) => self.reply(alloc, &reply),
+            Err(Memory) => Acted::Memory,
         }
     }
 
@@ -258,7 +241,7 @@ impl<'a, K: Keeper> Board<'a, K> {
         command: &Command,
         change: Change,
         reply: Reply,
-    ) -> Result<Listed<u8>, AskFault>
+    ) -> Acted
         requires valid { IsCommandOf self.old.airport command.now }
         requires taken { TakenAs (replay self.old.airport self.old.history)
             (length self.old.history) command.now accepted }
@@ -267,30 +250,26 @@ impl<'a, K: Keeper> Board<'a, K> {
             ≡ stepped_reply (replay self.old.airport self.old.history) command.now accepted }
         requires next { self.old.next ≤ call }
         requires last { call < call_limit }
-        ensures airport { self.new.airport ≡ self.old.airport }
-        ensures next { self.new.next ≤ call + 1 }
-        ensures gives { let plan = replay self.old.airport self.old.history in
-            GivesText plan self.old.history call (changes command.now) result self.new.history }
-        ensures faults { Counts (is_keeper_fault result) (K.state self.old.keeper).faults
-            (K.state self.new.keeper).faults }
-        ensures at_risk { LeavesAtRisk (history_at_risk_of (machine_state K.state self.old)) call
-            (What.Change command.now) (is_keeper_fault result)
-            (history_at_risk_of (machine_state K.state self.new)) }
+        ensures acts { ActsOnBoard K.state self.old self.new call (What.Change command.now)
+            (changes command.now) result }
     {
-        let entry = Entry {
-            call,
-            command: command.copy(alloc)?,
+        let Ok((entry, text, bytes)) = prepared(alloc, self.airport, call, command, &reply) else {
+            return Acted::Memory;
         };
-        let text = encode_entry(alloc, &entry)?;
-        let bytes = reply_bytes(alloc, self.airport, &reply)?;
-        make_room(&mut self.plan, &mut self.history, &change)?;
-        self.keeper.ready(alloc, text.len())?;
-        self.keeper.append(text.as_slice())?;
+        let Ok(()) = make_room(&mut self.plan, &mut self.history, &change) else {
+            return Acted::Memory;
+        };
+        let Ok(()) = self.keeper.ready(alloc, text.len()) else {
+            return Acted::Memory;
+        };
+        let Ok(()) = self.keeper.append(text.as_slice()) else {
+            return Acted::Fault;
+        };
         self.history.push_reserved(entry);
         self.plan.install(change);
         self.bumped = bumped_in(alloc, reply.told);
         self.next = call + 1;
-        Ok(bytes)
+        Acted::Reply(bytes)
     }
 }
 
@@ -317,15 +296,31 @@ impl<'a> Opening<'a> {
     }
 }
 
-fn acted_of(answered: Result<Listed<u8>, AskFault>) -> Acted
-    ensures is { result ≡ acted_of answered }
-    ensures fault { is_fault result ≡ is_keeper_fault answered }
+// The entry of a command, its bytes, and those of the reply. The only error is a lack of memory.
+fn prepared(
+    alloc: Global,
+    airport: &Airport,
+    call: u64,
+    command: &Command,
+    reply: &Reply,
+) -> Result<(Entry, Listed<u8>, Listed<u8>), Memory>
+    requires valid { IsCommandOf airport.now command.now }
+    requires last { call < call_limit }
+    requires tellable { IsTellable reply.now.told }
+    ensures entry { IfOk result
+        (λ made. made.0 ≡ record { call = call; command = command.now }) }
+    ensures some { IfOk result (λ made. 1 ≤ length made.1) }
+    ensures most { IfOk result (λ made. length made.1 ≤ most_bytes) }
+    ensures text { IfOk result (λ made. SpellsEntry airport.now made.1 made.0) }
+    ensures reply { IfOk result (λ made. made.2 ≡ reply_text airport.now reply.now) }
 {
-    match answered {
-        Ok(bytes) => Acted::Reply(bytes),
-        Err(AskFault::Memory) => Acted::Memory,
-        Err(AskFault::Fault) => Acted::Fault,
-    }
+    let entry = Entry {
+        call,
+        command: command.copy(alloc)?,
+    };
+    let text = encode_entry(alloc, &entry)?;
+    let bytes = reply_bytes(alloc, airport, reply)?;
+    Ok((entry, text, bytes))
 }
 
 fn visit_told(visit: Option<&Visit>) -> ReplyBody

@@ -1,8 +1,7 @@
-//! The board: a plan with the history that made it, and the answer to each ask. It knows nothing of
-//! requests and sessions, nor of which desks there are.
+//! The board: a plan with the history that made it, and the answer to each ask. Of HTTP
+//! it knows the bytes of replies, and nothing of requests and sessions, nor which desks there are.
 #![tactic(auto)]
 
-mod ask_fault;
 mod board;
 mod bumped;
 mod laws;

@@ -1,9 +1,13 @@
 use Rattle.std.proofs.Common.{◌∙◌, length, ℕ, ap, sym, subst}
+use Rattle.desk_asks.specs.declared.asks.What.TheVariants.{Change}
+use Rattle.history_core.specs.Answer.{Replies, changes}
+use Rattle.history_core.specs.Board.{BoardHeld}
+use Rattle.history_core.specs.History.{replay}
 use Rattle.history_core.specs.Taking.{ComesTo}
 use Rattle.history_core.specs.declared.taking.Taken.{Taken}
 use Rattle.history_core.specs.declared.taking.Taken.TheVariants.{Answered}
 use Rattle.history_core.proofs.Boards.{plan_airport, plan_numbered, plan_version}
-use Rattle.history_core.proofs.Texts.{answered_text}
+use Rattle.history_core.proofs.Replies.{answered_replies}
 use Rattle.history_core.proofs.board.Board.change.Goals as goal
 
 pub take_command-requires-clause-airport : goal.take_command-requires-clause-airport
@@ -21,12 +25,15 @@ take_command-requires-clause-entries g c =
     plan_version inside.airport.now inside.history.items inside.plan.plan c.self.invariant.plan_is c.self.invariant.legal
     ∙ sym (ap length c.as_slice-entries.ensures.value)
 
-pub returns-in_ok-reply_bytes-in-Answered-clause-gives : goal.returns-in_ok-reply_bytes-in-Answered-clause-gives
-returns-in_ok-reply_bytes-in-Answered-clause-gives g c =
+pub returns-in-Ok-Answered : goal.returns-in-Ok-Answered
+returns-in-Ok-Answered g c =
     let inside = c.self.inside in
     let command = c.args.command.now in
-    let found = subst (λ (taken : Taken). ComesTo inside.plan.plan (length c.as_slice-entries.result.now) command taken) c.in-Answered.is c.in_ok-change.ensures.finds in
-    let counted = subst (λ (n : ℕ). ComesTo inside.plan.plan n command (Answered c.in-Answered.reply)) (ap length c.as_slice-entries.ensures.value) found in
-    rw (← c.self.view_is)
-    (answered_text inside.airport.now inside.history.items inside.plan.plan c.args.call command c.in-Answered.reply c.in_ok-reply_bytes-in-Answered.field-0
-    c.self.invariant.plan_is counted c.in_ok-reply_bytes-in-Answered.ensures.text)
+    let reply = c.in-Ok-Answered.reply in
+    let found = subst (λ (taken : Taken). ComesTo inside.plan.plan (length c.as_slice-entries.result.now) command taken) c.in-Ok-Answered.field-0-is c.in-Ok-Answered.ensures.finds in
+    let counted = subst (λ (n : ℕ). ComesTo inside.plan.plan n command (Answered reply)) (ap length c.as_slice-entries.ensures.value) found in
+    let replies = answered_replies inside.airport.now inside.history.items inside.plan.plan c.args.call command reply c.self.invariant.plan_is counted in
+    record {
+      acts = c.reply.ensures.acts c.args.call (Change command) (changes command) c.requires.next
+          (subst (λ (b : BoardHeld g.row.K.Denot). Replies (replay b.airport b.history) b.history c.args.call (changes command) reply b.history) c.self.view_is replies);
+    }

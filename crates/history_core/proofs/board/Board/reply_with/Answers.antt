@@ -1,9 +1,21 @@
-use Rattle.history_core.proofs.Texts.{told_gives}
+use Rattle.std.proofs.Common.{◌∙◌, ℕ, ap, refl, sym, subst}
+use Rattle.plan_core.specs.PlanState.{PlanState}
+use Rattle.desk_words.specs.declared.replies.Reply.{Reply}
+use Rattle.history_core.specs.Acceptance.{reply_at}
+use Rattle.history_core.specs.Answer.{Replies, Sought}
+use Rattle.history_core.specs.Board.{BoardHeld}
+use Rattle.history_core.specs.History.{replay}
 use Rattle.history_core.proofs.board.Board.reply_with.Goals as goal
 
-pub returns-clause-gives : goal.returns-clause-gives
-returns-clause-gives g c =
-    let inside = c.self.inside in
-    λ call. rw (← c.self.view_is)
-    (told_gives inside.airport.now inside.history.items inside.plan.plan c.version.result call c.args.news c.in_ok-reply_bytes.field-0
-    c.self.invariant.plan_is c.version.ensures.value c.in_ok-reply_bytes.ensures.text)
+pub returns-in-Ok : goal.returns-in-Ok
+returns-in-Ok g c =
+    let old = c.args.self.now in
+    let plan = replay old.airport old.history in
+    let reply : Reply = record { version = c.version-version.result; told = c.in-Ok.told } in
+    let version = c.version-version.ensures.value ∙ (ap (λ (p : PlanState). p.version) c.self.invariant.plan_is
+    ∙ ap (λ (b : BoardHeld g.row.K.Denot). (replay b.airport b.history).version) c.self.view_is) in
+    record {
+      acts = λ call what asked up is. c.reply.ensures.acts call what asked up
+          (subst (λ (s : Sought). Replies plan old.history call s reply old.history) (sym (rw c.in-Ok.is at is))
+          (ap (λ (v : ℕ). reply_at v c.in-Ok.told) version, refl));
+    }
