@@ -16,10 +16,9 @@ use Rattle.history_core.specs.Answer.{Given}
 use Rattle.desk_http.specs.Answers.{at_once, fed}
 use Rattle.desk_http.specs.FedSession.{FedAnswers, FedAnswersTo, feed_asked}
 use Rattle.desk_http.specs.FeedPorts.{FeedGiven, ShowsFeed, feed_given_text}
-use Rattle.desk_http.specs.Finding.{said_by}
 use Rattle.desk_http.specs.Ports.{PortState}
 use Rattle.desk_http.specs.Replies.{IsAnswered, Writes, WritesActed}
-use Rattle.desk_http.specs.Routes.{said_in}
+use Rattle.desk_http.specs.Routes.{said_by, said_in}
 use Rattle.desk_http.specs.declared.port.FeedAsk.{FeedAsk}
 use Rattle.desk_http.proofs.Parts.{same_said, unwritten, written}
 

@@ -14,10 +14,9 @@ use Rattle.desk_words.specs.Early.{early_text}
 use Rattle.desk_words.specs.declared.early.EarlyReply.{EarlyReply as EarlyReply}
 use Rattle.history_core.specs.Answer.{Given}
 use Rattle.desk_http.specs.Answers.{Answers, AnswersTo, Sent, at_once, given, sent_text}
-use Rattle.desk_http.specs.Finding.{said_by}
 use Rattle.desk_http.specs.Ports.{PortState, ShowsAsk}
 use Rattle.desk_http.specs.Replies.{IsAnswered, Writes, WritesActed}
-use Rattle.desk_http.specs.Routes.{ask_of_request, asked_by, said_in}
+use Rattle.desk_http.specs.Routes.{ask_of_request, asked_by, said_by, said_in}
 use Rattle.desk_http.proofs.Asking.{GivesText, fault_gives, memory_gives, reply_gives}
 
 module _ (airport : AirportParts) (came : Result Sent Outcome → PortState → Type 0) (old new : SinkState) where
@@ -38,18 +37,18 @@ same_said request parts are = rw (are.method, are.target, are.seen, are.desk, ar
 
 module _ (asks : AirportParts → PortState → Ask → Given → PortState → Type 0) (airport : AirportParts) (before : PortState)
     (parts : RequestParts) (request : Request) (are : ArePartsOf request parts) where
-  by_parts : (asked : Result Ask EarlyReply) → asked_by airport (said_by parts) ≡ asked → asked ≡ ask_of_request airport request
-  by_parts asked e = sym e ∙ ap (asked_by airport) (same_said request parts are)
+  by_parts : (asked : Result Ask EarlyReply) → asked ≡ asked_by airport (said_by parts) → asked ≡ ask_of_request airport request
+  by_parts asked e = e ∙ ap (asked_by airport) (same_said request parts are)
 
   module _ (old new : SinkState) (result : Result (Unit {0}) Outcome) where
-    gives : (ask : Ask) (text : List ℕ) (after : PortState) → asked_by airport (said_by parts) ≡ Ok ask → GivesText asks airport before after ask text
+    gives : (ask : Ask) (text : List ℕ) (after : PortState) → Ok ask ≡ asked_by airport (said_by parts) → GivesText asks airport before after ask text
         → Writes text old new result → IsAnswered airport (Answers asks airport before request) old new result after
     gives ask text after e gave wrote =
         written airport (Answers asks airport before request) old new (given gave.0) text result after
         (subst (λ asked. AnswersTo asks airport before asked (Ok (given gave.0)) after) (by_parts (Ok ask) e) gave.1) gave.2 wrote
 
     -- an ask is answered as the port gives it
-    pub answers_ask : (ask : Ask) (acted : Acted) (after : PortState) → asked_by airport (said_by parts) ≡ Ok ask → ShowsAsk asks airport before ask acted after
+    pub answers_ask : (ask : Ask) (acted : Acted) (after : PortState) → Ok ask ≡ asked_by airport (said_by parts) → ShowsAsk asks airport before ask acted after
         → WritesActed acted old new result → IsAnswered airport (Answers asks airport before request) old new result after
     answers_ask ask (Reply text) after e shows wrote = gives ask text after e (reply_gives asks airport before after ask text shows) wrote
     answers_ask ask NoMemory after e shows wrote = gives ask _ after e (memory_gives asks airport before after ask shows) wrote
@@ -59,7 +58,7 @@ module _ (asks : AirportParts → PortState → Ask → Given → PortState → 
         (subst (λ asked. AnswersTo asks airport before asked (Err Spent) after) (by_parts (Ok ask) e) shows) wrote
 
     -- a reply that is fixed before the plan is consulted is sent, and the port stays as it is
-    pub answers_early : (early : EarlyReply) → asked_by airport (said_by parts) ≡ Err early → Writes (early_text early) old new result
+    pub answers_early : (early : EarlyReply) → Err early ≡ asked_by airport (said_by parts) → Writes (early_text early) old new result
         → IsAnswered airport (Answers asks airport before request) old new result before
     answers_early early e wrote =
         written airport (Answers asks airport before request) old new (at_once early) _ result before

@@ -7,7 +7,6 @@ pub mod Names
 pub mod Targets
 pub mod FeedTargets
 pub mod Table
-pub mod Finding
 pub mod CommitsRoute
 pub mod DaysRoute
 pub mod Desks

@@ -3,10 +3,11 @@ use Rattle.std.specs.Prelude.{◌≡◌, ℕ, Bool, true, false, not, List, code
 use Rattle.std.specs.Str.{bytes_eq}
 use Rattle.apron_base.specs.ResultChain.{◌>>=◌, refuse_if}
 use Rattle.apron_rules.specs.declared.parts.AirportParts.{AirportParts}
-use Rattle.http_framing.specs.Fields.{number_field, pairs, text_field}
+use Rattle.http_framing.specs.Fields.{number_field, pairs, text_field, text_shown}
 use Rattle.http_framing.specs.Requests.{Request}
 use Rattle.http_framing.specs.declared.fields.FieldNumber.{FieldNumber}
 use Rattle.http_framing.specs.declared.fields.FieldNumber.TheVariants.{Absent, Written, Wrong}
+use Rattle.http_framing.specs.declared.front.RequestParts.{RequestParts}
 use Rattle.desk_asks.specs.declared.asks.Ask.{Ask}
 use Rattle.desk_asks.specs.declared.asks.What.{What}
 use Rattle.desk_asks.specs.declared.asks.What.TheVariants as what
@@ -85,6 +86,16 @@ said_in request = record {
   seen = seen_version (number_field (codes "x-seen") (pairs request.head));
   desk = desk_named (text_field (codes "x-desk") (pairs request.head));
   body = request.body;
+}
+
+-- what the parts of a request say
+abbrev pub said_by : RequestParts → Said
+said_by parts = record {
+  method = parts.method.now;
+  target = parts.target.now;
+  seen = seen_version parts.seen;
+  desk = desk_named (text_shown parts.desk);
+  body = parts.body.now;
 }
 
 -- the route that a request takes, by its method

@@ -4,9 +4,9 @@ ghost use Rattle.desk_words.specs.Early.{early_text};
 ghost use Rattle.desk_http.specs.Replies.{Writes, WritesActed};
 
 use crate::DeskPort;
-use crate::routes::{Unasked, asked_by};
+use crate::routes::asked_by;
 use crate::targets::DeskRoutes;
-use apron_base::{Acted, Failed, Outcome, Sink};
+use apron_base::{Acted, Failed, Memory, Outcome, Sink};
 use desk_words::early::{EarlyReply, early_bytes};
 use desk_words::fixed;
 use http_framing::RequestParts;
@@ -57,9 +57,9 @@ impl<P: DeskPort> Answerer<P> for DeskRoutes {
         parts: &RequestParts<'_>,
     ) -> Result<(), Outcome> {
         match asked_by(alloc, self, port.airport(), parts) {
-            Ok(ask) => write_acted(sink, port.ask(alloc, &ask)),
-            Err(Unasked::AtOnce(early)) => write_early(sink, early),
-            Err(Unasked::Memory) => Err(Outcome::Memory),
+            Ok(Ok(ask)) => write_acted(sink, port.ask(alloc, &ask)),
+            Ok(Err(early)) => write_early(sink, early),
+            Err(Memory) => Err(Outcome::Memory),
         }
     }
 }

@@ -3,7 +3,7 @@ ghost use Rattle.std.specs.Prelude.{◌≡◌};
 ghost use Rattle.desk_http.specs.Complete.{IsCompleteBy};
 ghost use Rattle.desk_http.specs.FedSession.{FedAnswers, FedSessionOf, feed_asked as feed_asked_lem, feed_asked_of as feed_asked_of_lem};
 ghost use Rattle.desk_http.specs.FeedTargets.{feed_named as feed_named_lem, feed_of as feed_of_lem, version_written as version_written_lem};
-ghost use Rattle.desk_http.specs.Finding.{said_by};
+ghost use Rattle.desk_http.specs.Routes.{said_by};
 
 use crate::answering::{Answerer, write_acted, write_early};
 use crate::names::name_told;

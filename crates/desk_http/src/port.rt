@@ -66,8 +66,8 @@ pub struct FeedAsk {
     pub feed: Feed,
 }
 
-/// A port that answers feeds too. What their replies are is a meaning of the port, so that a
-/// session knows of no watches.
+/// A port that answers feeds too. The port says what their replies are, so that a session knows of
+/// no watches.
 pub trait FeedPort: DeskPort {
     ghost use Rattle.std.specs.Prelude.{◌≡◌, ℕ, List};
     ghost use Rattle.apron_rules.specs.declared.parts.AirportParts.{AirportParts};

@@ -1,10 +1,9 @@
 // What a request asks.
-ghost use Rattle.std.specs.Prelude.{◌≡◌, Err, IfOk};
+ghost use Rattle.std.specs.Prelude.{◌≡◌, Ok, Err, IfOk, MatchOption, OnErr};
 ghost use Rattle.history_core.specs.History.{IsAskOf, IsWhatOf};
-ghost use Rattle.desk_http.specs.Finding.{FindsOrReplies, said_by};
 ghost use Rattle.http_framing.specs.Fields.{text_shown};
 ghost use Rattle.desk_http.specs.Desks.{desk_named as desk_named_lem};
-ghost use Rattle.desk_http.specs.Routes.{ReadsBody, asked_by as asked_by_lem, body_of, desk_for as desk_for_lem, json, method_of as method_of_lem, only as only_lem, route_taken as route_taken_lem, seen_version as seen_of_lem, takes_body as takes_body_lem, what_asked as what_asked_lem};
+ghost use Rattle.desk_http.specs.Routes.{ReadsBody, asked_by as asked_by_lem, body_of, desk_for as desk_for_lem, json, method_of as method_of_lem, only as only_lem, route_taken as route_taken_lem, said_by, seen_version as seen_of_lem, takes_body as takes_body_lem, what_asked as what_asked_lem};
 
 use crate::numbers::within_32_bits;
 use crate::targets::{DeskRoutes, Route};
@@ -30,67 +29,30 @@ use messages::message_asked;
 use reports::{cancel_asked, report_asked};
 use visits::visit_added;
 
-/// Why nothing is asked of the plan.
-#[derive(Clone, Copy, Debug, PartialEq, Eq)]
-pub(crate) enum Unasked {
-    /// This reply is fixed before the plan is consulted.
-    AtOnce(EarlyReply),
-    /// Memory ran out while the body was read.
-    Memory,
-}
-
-impl From<EarlyReply> for Unasked {
-    ghost use Rattle.std.specs.Prelude.{◌≡◌};
-    ghost use Rattle.desk_http.specs.declared.routes.Unasked.TheVariants.{AtOnce};
-
-    ghost from_gives = { λ early unasked. unasked ≡ AtOnce early };
-
-    fn from(early: EarlyReply) -> Self {
-        Unasked::AtOnce(early)
-    }
-}
-
-impl From<Memory> for Unasked {
-    ghost use Rattle.std.specs.Prelude.{◌≡◌};
-    ghost use Rattle.desk_http.specs.declared.routes.Unasked.TheVariants as unasked;
-
-    ghost from_gives = { λ _ given. given ≡ unasked.Memory };
-
-    fn from(_: Memory) -> Self {
-        Unasked::Memory
-    }
-}
-
-impl From<BodyFault> for Unasked {
-    ghost use Rattle.std.specs.Prelude.{◌≡◌};
-    ghost use Rattle.desk_http.specs.Finding.{of_body_fault};
-
-    ghost from_gives = { λ fault unasked. unasked ≡ of_body_fault fault };
-
-    fn from(fault: BodyFault) -> Self {
-        match fault {
-            BodyFault::Form => Unasked::AtOnce(EarlyReply::NotJson),
-            BodyFault::Memory => Unasked::Memory,
-        }
-    }
-}
-
-/// What a request with these parts asks of the plan of this airport.
+/// What a request with these parts asks of the plan of this airport, or the reply that is fixed
+/// before the plan is consulted. `Err(Memory)` if there is no memory to read its body.
 pub(crate) fn asked_by(
     alloc: Global,
     routes: &DeskRoutes,
     airport: &Airport,
     request: &RequestParts<'_>,
-) -> Result<Ask, Unasked>
-    ensures asked { FindsOrReplies (asked_by_lem airport.now (said_by request.now)) result }
-    ensures memory { result ≡ Err Unasked.Memory → ReadsBody (said_by request.now) }
-    ensures valid { IfOk result (IsAskOf airport.now) }
+) -> Result<Result<Ask, EarlyReply>, Memory>
+    ensures asked { IfOk result (λ found. found ≡ asked_by_lem airport.now (said_by request.now)) }
+    ensures memory { OnErr result (ReadsBody (said_by request.now)) }
+    ensures valid { IfOk result (λ found. IfOk found (IsAskOf airport.now)) }
 {
-    let route = route_taken(routes, request.method, request.target)?;
-    let seen = seen_of(request.seen).ok_or(EarlyReply::BadSeen)?;
-    let desk = desk_for(&route, request.desk).ok_or(EarlyReply::BadDesk)?;
+    let route = match route_taken(routes, request.method, request.target) {
+        Ok(route) => route,
+        Err(early) => return Ok(Err(early)),
+    };
+    let Some(seen) = seen_of(request.seen) else {
+        return Ok(Err(EarlyReply::BadSeen));
+    };
+    let Some(desk) = desk_for(&route, request.desk) else {
+        return Ok(Err(EarlyReply::BadDesk));
+    };
     let what = what_asked(alloc, airport, &route, desk, request.body)?;
-    Ok(Ask { seen, what })
+    Ok(what.map(|what| Ask { seen, what }))
 }
 
 // The route that a request takes, by its method.
@@ -159,24 +121,38 @@ fn what_asked(
     route: &Route,
     desk: Name,
     body: &[u8],
-) -> Result<What, Unasked>
-    ensures asked { FindsOrReplies (what_asked_lem airport.now route.now desk body.now) result }
-    ensures memory { result ≡ Err Unasked.Memory → body_of route.now ≡ json }
-    ensures valid { IfOk result (IsWhatOf airport.now) }
+) -> Result<Result<What, EarlyReply>, Memory>
+    ensures asked { IfOk result (λ found.
+        found ≡ what_asked_lem airport.now route.now desk body.now) }
+    ensures memory { OnErr result (body_of route.now ≡ json) }
+    ensures valid { IfOk result (λ found. IfOk found (IsWhatOf airport.now)) }
 {
-    match *route {
-        Route::Visits => visit_added(alloc, airport, body),
-        Route::Commits => commit_asked(alloc, airport, body),
-        Route::Mvt => Ok(message_asked(desk, body)?),
-        Route::Reports => report_asked(alloc, airport, desk, body),
-        Route::Cancels => cancel_asked(alloc, body),
+    Ok(match *route {
+        Route::Visits => visit_added(alloc, airport, body)?,
+        Route::Commits => commit_asked(alloc, airport, body)?,
+        Route::Mvt => message_asked(desk, body),
+        Route::Reports => report_asked(alloc, airport, desk, body)?,
+        Route::Cancels => cancel_asked(alloc, body)?,
         Route::Version => Ok(What::Version),
         Route::Unplaced => Ok(What::Unplaced),
         Route::Airport => Ok(What::Airport),
         Route::Visit(number) => Ok(What::Visit(number)),
         Route::Entry(number) => Ok(What::Entry(number)),
-        Route::Plan(day) => Ok(day_asked(airport, day, What::Plan(day))?),
-        Route::Chart(day) => Ok(day_asked(airport, day, What::Chart(day))?),
-        Route::Day(day) => Ok(day_asked(airport, day, What::Day(day))?),
+        Route::Plan(day) => day_asked(airport, day, What::Plan(day)),
+        Route::Chart(day) => day_asked(airport, day, What::Chart(day)),
+        Route::Day(day) => day_asked(airport, day, What::Day(day)),
+    })
+}
+
+// What was read of a body, if it has the form. `Err` if there was no memory to read it.
+fn if_formed<T>(read: Result<T, BodyFault>) -> Result<Option<T>, Memory>
+    ensures read { IfOk result (λ formed.
+        MatchOption formed (read ≡ Err BodyFault.Form) (λ body. read ≡ Ok body)) }
+    ensures memory { OnErr result (read ≡ Err BodyFault.Memory) }
+{
+    match read {
+        Ok(body) => Ok(Some(body)),
+        Err(BodyFault::Form) => Ok(None),
+        Err(BodyFault::Memory) => Err(Memory),
     }
 }

@@ -4,11 +4,10 @@ ghost use Rattle.history_core.specs.History.{IsWhatOf};
 ghost use Rattle.visit_book.specs.Edits.{IsEditOf, most_edits};
 ghost use Rattle.desk_bodies.specs.CommitsShown.{edit_shown};
 ghost use Rattle.desk_http.specs.CommitsRoute.{commit_asked as commit_asked_lem, edit_named as edit_named_lem, edits_named as edits_named_lem};
-ghost use Rattle.desk_http.specs.Finding.{FindsOrReplies};
 
-use super::Unasked;
+use super::if_formed;
 use crate::names::stand_named;
-use apron_base::{Listed, VisitNo};
+use apron_base::{Listed, Memory, VisitNo};
 use apron_rules::Airport;
 use desk_asks::{Command, What};
 use desk_bodies::{EditText, read_commit};
@@ -17,18 +16,26 @@ use std::alloc::Global;
 use visit_book::{Draft, Edit};
 
 /// What is asked with this body.
-pub(crate) fn commit_asked(alloc: Global, airport: &Airport, body: &[u8]) -> Result<What, Unasked>
-    ensures asked { FindsOrReplies (commit_asked_lem airport.now body.now) result }
-    ensures valid { IfOk result (IsWhatOf airport.now) }
+pub(crate) fn commit_asked(
+    alloc: Global,
+    airport: &Airport,
+    body: &[u8],
+) -> Result<Result<What, EarlyReply>, Memory>
+    ensures asked { IfOk result (λ found. found ≡ commit_asked_lem airport.now body.now) }
+    ensures valid { IfOk result (λ found. IfOk found (IsWhatOf airport.now)) }
 {
-    let commit = read_commit(alloc, body)?;
-    let edits = edits_named(alloc, airport, commit.edits.as_slice())?;
-    Ok(What::Change(Command::Commit(Draft {
-        desk: commit.desk,
-        number: commit.draft,
-        base: commit.base,
-        edits,
-    })))
+    let Some(commit) = if_formed(read_commit(alloc, body))? else {
+        return Ok(Err(EarlyReply::NotJson));
+    };
+    let named = edits_named(alloc, airport, commit.edits.as_slice())?;
+    Ok(named.map(|edits| {
+        What::Change(Command::Commit(Draft {
+            desk: commit.desk,
+            number: commit.draft,
+            base: commit.base,
+            edits,
+        }))
+    }))
 }
 
 // The edits with their stands by number, or the first that names no stand.
@@ -36,20 +43,23 @@ fn edits_named(
     alloc: Global,
     airport: &Airport,
     texts: &[EditText],
-) -> Result<Listed<Edit>, Unasked>
+) -> Result<Result<Listed<Edit>, EarlyReply>, Memory>
     requires few { length texts.now ≤ most_edits }
-    ensures named { FindsOrReplies (edits_named_lem airport.now 1 (map edit_shown texts.now))
-        result }
-    ensures stands { IfOk result (All (IsEditOf airport.now)) }
-    ensures count { IfOk result (λ edits. length edits ≡ length texts.now) }
+    ensures named { IfOk result (λ found.
+        found ≡ edits_named_lem airport.now 1 (map edit_shown texts.now)) }
+    ensures stands { IfOk result (λ found. IfOk found (All (IsEditOf airport.now))) }
+    ensures count { IfOk result (λ found. IfOk found (λ edits. length edits ≡ length texts.now)) }
 {
     let mut edits = Listed::new(alloc);
     let mut number = 1;
     for text in texts {
-        edits.push(edit_named(airport, number, text)?)?;
+        match edit_named(airport, number, text) {
+            Ok(edit) => edits.push(edit)?,
+            Err(early) => return Ok(Err(early)),
+        }
         number += 1;
     }
-    Ok(edits)
+    Ok(Ok(edits))
 }
 
 fn edit_named(airport: &Airport, number: u8, text: &EditText) -> Result<Edit, EarlyReply>

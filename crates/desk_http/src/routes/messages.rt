@@ -12,7 +12,7 @@ use mvt_grammar::read_mvt;
 /// What the desk asks with this body, which is a text and no JSON. It takes no memory.
 pub(crate) fn message_asked(desk: Name, body: &[u8]) -> Result<What, EarlyReply>
     ensures asked { result ≡ message_asked_lem desk body.now }
-    ensures valid { (airport : AirportParts) → IfOk result (IsWhatOf airport) }
+    ensures valid { IfOk result (λ what. (airport : AirportParts) → IsWhatOf airport what) }
 {
     match read_mvt(body) {
         Ok(message) => Ok(What::Change(Command::Message(DeskMessage { desk, message }))),

@@ -4,12 +4,11 @@ ghost use Rattle.apron_rules.specs.declared.parts.AirportParts.{AirportParts};
 ghost use Rattle.history_core.specs.History.{IsWhatOf};
 ghost use Rattle.visit_book.specs.Reports.{IsEventOf};
 ghost use Rattle.desk_bodies.specs.ReportsShown.{event_shown};
-ghost use Rattle.desk_http.specs.Finding.{FindsOrReplies};
 ghost use Rattle.desk_http.specs.ReportsRoute.{cancel_asked as cancel_asked_lem, event_named as event_named_lem, report_asked as report_asked_lem};
 
-use super::Unasked;
+use super::if_formed;
 use crate::names::stand_named;
-use apron_base::{Name, VisitNo};
+use apron_base::{Memory, Name, VisitNo};
 use apron_rules::Airport;
 use desk_asks::{Command, DeskReport, What};
 use desk_bodies::{EventText, read_cancel, read_report};
@@ -23,17 +22,20 @@ pub(crate) fn report_asked(
     airport: &Airport,
     desk: Name,
     body: &[u8],
-) -> Result<What, Unasked>
-    ensures asked { FindsOrReplies (report_asked_lem airport.now desk body.now) result }
-    ensures valid { IfOk result (IsWhatOf airport.now) }
+) -> Result<Result<What, EarlyReply>, Memory>
+    ensures asked { IfOk result (λ found. found ≡ report_asked_lem airport.now desk body.now) }
+    ensures valid { IfOk result (λ found. IfOk found (IsWhatOf airport.now)) }
 {
-    let report = read_report(alloc, body)?;
-    let event = event_named(airport, &report.event)?;
-    Ok(What::Change(Command::Report(DeskReport {
-        desk,
-        visit: VisitNo(report.visit),
-        event,
-    })))
+    let Some(report) = if_formed(read_report(alloc, body))? else {
+        return Ok(Err(EarlyReply::NotJson));
+    };
+    Ok(event_named(airport, &report.event).map(|event| {
+        What::Change(Command::Report(DeskReport {
+            desk,
+            visit: VisitNo(report.visit),
+            event,
+        }))
+    }))
 }
 
 // What happened, the stand by number.
@@ -61,10 +63,11 @@ fn event_named(airport: &Airport, text: &EventText) -> Result<Event, EarlyReply>
 }
 
 /// What is asked with the body of a cancel.
-pub(crate) fn cancel_asked(alloc: Global, body: &[u8]) -> Result<What, Unasked>
-    ensures asked { FindsOrReplies (cancel_asked_lem body.now) result }
-    ensures valid { (airport : AirportParts) → IfOk result (IsWhatOf airport) }
+pub(crate) fn cancel_asked(alloc: Global, body: &[u8]) -> Result<Result<What, EarlyReply>, Memory>
+    ensures asked { IfOk result (λ found. found ≡ cancel_asked_lem body.now) }
+    ensures valid { IfOk result (λ found.
+        IfOk found (λ what. (airport : AirportParts) → IsWhatOf airport what)) }
 {
-    let visit = read_cancel(alloc, body)?;
-    Ok(What::Change(Command::Cancel(VisitNo(visit))))
+    let visit = if_formed(read_cancel(alloc, body))?.ok_or(EarlyReply::NotJson);
+    Ok(visit.map(|visit| What::Change(Command::Cancel(VisitNo(visit)))))
 }

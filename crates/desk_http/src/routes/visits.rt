@@ -3,11 +3,11 @@ ghost use Rattle.std.specs.Prelude.{◌≡◌, ◌<◌, IfOk, length};
 ghost use Rattle.history_core.specs.History.{IsWhatOf};
 ghost use Rattle.visit_book.specs.NewVisits.{IsNewVisit};
 ghost use Rattle.desk_bodies.specs.VisitsShown.{HasForm, visit_shown};
-ghost use Rattle.desk_http.specs.Finding.{FindsOrReplies};
 ghost use Rattle.desk_http.specs.VisitsRoute.{new_named as new_named_lem, visit_added as visit_added_lem};
 
-use super::Unasked;
+use super::if_formed;
 use crate::names::type_named;
+use apron_base::Memory;
 use apron_rules::Airport;
 use desk_asks::{Command, What};
 use desk_bodies::{VisitText, read_visit};
@@ -16,16 +16,22 @@ use std::alloc::Global;
 use visit_book::{NewVisit, is_in_time};
 
 /// What is asked with this body.
-pub(crate) fn visit_added(alloc: Global, airport: &Airport, body: &[u8]) -> Result<What, Unasked>
-    ensures asked { FindsOrReplies (visit_added_lem airport.now body.now) result }
-    ensures valid { IfOk result (IsWhatOf airport.now) }
+pub(crate) fn visit_added(
+    alloc: Global,
+    airport: &Airport,
+    body: &[u8],
+) -> Result<Result<What, EarlyReply>, Memory>
+    ensures asked { IfOk result (λ found. found ≡ visit_added_lem airport.now body.now) }
+    ensures valid { IfOk result (λ found. IfOk found (IsWhatOf airport.now)) }
 {
-    let text = read_visit(alloc, body)?;
-    let new = new_named(airport, &text)?;
-    if !is_in_time(airport, &new) {
-        return Err(Unasked::AtOnce(EarlyReply::BadTimes));
-    }
-    Ok(What::Change(Command::AddVisit(new)))
+    let Some(text) = if_formed(read_visit(alloc, body))? else {
+        return Ok(Err(EarlyReply::NotJson));
+    };
+    Ok(match new_named(airport, &text) {
+        Ok(new) if is_in_time(airport, &new) => Ok(What::Change(Command::AddVisit(new))),
+        Ok(_) => Err(EarlyReply::BadTimes),
+        Err(early) => Err(early),
+    })
 }
 
 // What a visit is to be added with: its type by number.
