@@ -25,7 +25,8 @@ use Rattle.history_core.specs.Laws.{HasAdded, HasVisit}
 use Rattle.history_core.specs.Acceptance.{Stepped, TakenAs, accepted, ahead, denied, edit, full, name, refused, repeated}
 use Rattle.history_core.proofs.Added.{visits_added}
 use Rattle.history_core.proofs.Legal.{front_legal}
-use Rattle.apron_run.specs.Asking.{AsksOnce, AsksSeason, IsMissing, IsThere, MeetsAll, Reached, StopsAmong, StopsImport}
+use Rattle.apron_run.specs.Asking.{AsksOnce, AsksSeason, IsMissing, IsThere, MeetsAll, StopsAmong, StopsImport}
+use Rattle.apron_run.specs.Opened.{Reached}
 use Rattle.apron_run.specs.SecondImport.{AddsNothing, SecondAddsNothing}
 use Rattle.apron_run.specs.declared.imported.Imported.{Imported}
 use Rattle.apron_run.specs.declared.imported.Imported.TheVariants.{Whole, ShelfFault, TooLong, Refused, Full, DiskFault, Spent, Memory}

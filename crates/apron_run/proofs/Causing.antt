@@ -17,7 +17,7 @@ use Rattle.apron_check.specs.Lines.{counts_line}
 use Rattle.apron_check.specs.declared.files.AirportFiles.{AirportFiles}
 use Rattle.apron_check.specs.declared.faults.FilesFault.{FilesFault}
 use Rattle.apron_check.specs.declared.faults.FilesFault.TheVariants as files
-use Rattle.apron_run.specs.Asking.{Reached, opened_board}
+use Rattle.apron_run.specs.Opened.{Reached, opened_board}
 use Rattle.apron_run.specs.Causes.{FaultsHaveCause, NoFaultIsTold}
 use Rattle.apron_run.specs.Chart.{AtDay, IsChart}
 use Rattle.apron_run.specs.Desk.{AtDesk}
@@ -35,7 +35,7 @@ use Rattle.apron_run.specs.Statuses.{exit_code}
 use Rattle.apron_run.specs.TwoFiles.{WithFiles}
 use Rattle.apron_run.specs.Upgrade.{AtUpgrade}
 use Rattle.apron_run.specs.Words.{Subcommand, desk, init, check, chart, import, export, propose, upgrade, make, help, version, faulty, number_within, uses_disk, uses_shelf, uses_source}
-use Rattle.apron_run.specs.World.{World}
+use Rattle.apron_run.specs.World.{RunWorld}
 use Rattle.apron_run.specs.declared.end.End.{End}
 use Rattle.apron_run.specs.declared.end.End.TheVariants.{Printed, Served, Imported, Faulty, Memory as Wanting, Unusable as Unworkable, Unasked}
 use Rattle.apron_run.specs.declared.imported.Imported.{Imported as How}
@@ -54,7 +54,7 @@ may_be_usage faulty = true
 may_be_usage (chart airport types day) = true
 may_be_usage asked = false
 
-module _ (asked : Subcommand) (before after : World) where
+module _ (asked : Subcommand) (before after : RunWorld) where
   -- what a status says: which end of the outside failed, which what is asked for uses; or that the
   -- words may be faulty
   abbrev pub Blames : Status → Type 0
@@ -81,7 +81,7 @@ module _ (asked : Subcommand) (before after : World) where
   unasked_says shelf end may (is, untouched) = subst Says (sym is) (tt, may)
 
   -- a word that begins with two files
-  module _ (At : AirportFiles → World → World → End → Type 0) (end : End) (used : uses_shelf asked ≡ true)
+  module _ (At : AirportFiles → RunWorld → RunWorld → End → Type 0) (end : End) (used : uses_shelf asked ≡ true)
       (goes : (files : AirportFiles) (shelf : ShelfState) → shelf.faults ≡ before.shelf.faults → At files (record before { shelf = shelf }) after end → Says end) where
     fault_says : (fault : FilesFault) (shelf : ShelfState) → Counts (is_files_shelf_fault (Err fault)) before.shelf.faults shelf.faults → after.shelf ≡ shelf → Says (Faulty fault)
     fault_says files.ShelfFault shelf counts same =
@@ -160,7 +160,7 @@ module _ (asked : Subcommand) (before after : World) where
     season_says used same season (Unworkable why) at = unworkable_says why at
     season_says used same season end at = absurd at.2
 
-desk_says : (feeds : FeedTexts) (airport types : List ℕ) (files : AirportFiles) (before : World) (shelf : ShelfState) (after : World) (end : End)
+desk_says : (feeds : FeedTexts) (airport types : List ℕ) (files : AirportFiles) (before : RunWorld) (shelf : ShelfState) (after : RunWorld) (end : End)
     → AtDesk feeds files (record before { shelf = shelf }) after end → Says (desk airport types) before after end
 desk_says feeds airport types files before shelf after (Served came.ReadFault) (opened, opens, (same, serves)) =
     let session = serves.session in
@@ -176,13 +176,13 @@ desk_says feeds airport types files before shelf after (Served outcome) at = (tt
 desk_says feeds airport types files before shelf after (Unworkable why) at = unworkable_says (desk airport types) before after files shelf refl why at
 desk_says feeds airport types files before shelf after end at = absurd at.2
 
-make_says : (visits : ℕ) (before after : World) (end : End) → AtMake visits before after end → Says (make visits) before after end
+make_says : (visits : ℕ) (before after : RunWorld) (end : End) → AtMake visits before after end → Says (make visits) before after end
 make_says visits before after (Printed line) at = let untouched = at.1 in (untouched.sink, tt)
 make_says visits before after Wanting at = (tt, tt)
 make_says visits before after end at = absurd at
 
 -- each word
-does_say : (feeds : FeedTexts) (asked : Subcommand) (before after : World) (end : End) → DoesAsked feeds asked before after end → Says asked before after end
+does_say : (feeds : FeedTexts) (asked : Subcommand) (before after : RunWorld) (end : End) → DoesAsked feeds asked before after end → Says asked before after end
 does_say feeds (desk airport types) before after end =
     files_say (desk airport types) before after (AtDesk feeds) end refl (λ files shelf same at. desk_says feeds airport types files before shelf after end at)
 does_say feeds (init airport types) before after end =
@@ -206,7 +206,7 @@ does_say feeds version before after end = printed_says version before after vers
 does_say feeds faulty before after end = unasked_says faulty before after before.shelf end refl
 
 -- the status if the sink failed at the line
-cut_of : (asked : Subcommand) (before after : World) (end : End) → Quiet asked before after end
+cut_of : (asked : Subcommand) (before after : RunWorld) (end : End) → Quiet asked before after end
     → (cut_status_of end ≡ status_of end) ⊎ ((cut_status_of end ≡ WriteFault) × (status_of end ≡ Done) × (after.sink ≡ before.sink))
 cut_of asked before after (Printed text) same = inr (refl, refl, same)
 cut_of asked before after (Imported (imports.Whole added present)) same = inr (refl, refl, same)
@@ -244,7 +244,7 @@ kept_by true old new same = tt
 kept_by false old new same = same refl
 
 -- the number of a run is that of its end's status; or all was done, and the sink failed at the line
-abbrev pub EndsAt : World → World → End → ℕ → Type 0
+abbrev pub EndsAt : RunWorld → RunWorld → End → ℕ → Type 0
 EndsAt before after end code =
     (code ≡ exit_code (status_of end)) ⊎ ((code ≡ exit_code WriteFault) × (status_of end ≡ Done) × Rose before.sink.faults after.sink.faults)
 
@@ -252,8 +252,8 @@ EndsAt before after end code =
 pub rose_on : (before mid after : ℕ) → Rose before mid → mid ≤ after → Rose before after
 rose_on before mid after rose least = let low : min (before + 1) last_count ≤ mid = rose in omega arith
 
-module _ (feeds : FeedTexts) (asked : Subcommand) (before after : World) (code : ℕ) (runs : RunsAs feeds asked before after code) where
-  abbrev mid : World
+module _ (feeds : FeedTexts) (asked : Subcommand) (before after : RunWorld) (code : ℕ) (runs : RunsAs feeds asked before after code) where
+  abbrev mid : RunWorld
   mid = record after { sink = runs.written }
 
   says : Says asked before mid runs.end

@@ -17,7 +17,7 @@ use Rattle.apron_run.specs.Run.{DoesAsked, RunsAs}
 use Rattle.apron_run.specs.Statuses.{exit_code}
 use Rattle.apron_run.specs.Upgrade.{AtUpgrade}
 use Rattle.apron_run.specs.Words.{Subcommand, desk, init, check, chart, import, export, propose, upgrade, make, help, version, faulty, number_within}
-use Rattle.apron_run.specs.World.{World}
+use Rattle.apron_run.specs.World.{RunWorld}
 use Rattle.apron_run.specs.declared.end.End.{End}
 use Rattle.apron_run.specs.declared.end.End.TheVariants.{Printed, Memory as Wanting}
 use Rattle.apron_run.specs.declared.status.Status.{Status}
@@ -26,13 +26,13 @@ use Rattle.apron_run.proofs.Completing.{Well, day_well, files_well, init_well, m
 use Rattle.apron_run.proofs.Sessions.{desk_well}
 use Rattle.apron_run.proofs.Upgrading.{upgrade_well}
 
-make_well : (visits : ℕ) (before after : World) (end : End) → AtMake visits before after end → Well (status_of end)
+make_well : (visits : ℕ) (before after : RunWorld) (end : End) → AtMake visits before after end → Well (status_of end)
 make_well visits before after (Printed line) at = inl refl
 make_well visits before after Wanting at = inr refl
 make_well visits before after end at = absurd at
 
 -- each word
-does_well : (feeds : FeedTexts) (asked : Subcommand) (before after : World) (end : End) → CanBeRun asked before → NoneFails before after → DoesAsked feeds asked before after end
+does_well : (feeds : FeedTexts) (asked : Subcommand) (before after : RunWorld) (end : End) → CanBeRun asked before → NoneFails before after → DoesAsked feeds asked before after end
     → Well (status_of end)
 does_well feeds (desk airport types) before after end (made, has, (history, told, opens, input)) free =
     files_well made airport types before after end has free.files.shelf (AtDesk feeds) (λ shelf same alike.
@@ -70,7 +70,7 @@ ends_well status code is (inr wanting) = inr (is ∙ ap exit_code wanting)
 still_before : (before mid after : ℕ) → mid ≤ after → ¬ (Rose before after) → ¬ (Rose before mid)
 still_before before mid after least still rose = still (rose_on before mid after rose least)
 
-pub run_complete : (feeds : FeedTexts) (asked : Subcommand) (before after : World) (code : ℕ) → RunsAs feeds asked before after code → IsRunComplete asked before after code
+pub run_complete : (feeds : FeedTexts) (asked : Subcommand) (before after : RunWorld) (code : ℕ) → RunsAs feeds asked before after code → IsRunComplete asked before after code
 run_complete feeds asked before after code runs = record { well = λ valid free. by_ran valid free (ran feeds asked before after code runs) }
   where
     by_ran : CanBeRun asked before → NoneFails before after → EndsAt before after runs.end code → EndsWell code

@@ -20,7 +20,8 @@ use Rattle.apron_check.specs.Files.{FindsFiles}
 use Rattle.apron_check.specs.declared.files.AirportFiles.{AirportFiles}
 use Rattle.apron_check.specs.declared.faults.FilesFault.{FilesFault}
 use Rattle.apron_check.specs.declared.faults.FilesFault.TheVariants as files
-use Rattle.apron_run.specs.Asking.{AsksOnce, AsksSeason, MeetsAll, Reached, StopsAmong, StopsImport, opened_board}
+use Rattle.apron_run.specs.Asking.{AsksOnce, AsksSeason, MeetsAll, StopsAmong, StopsImport}
+use Rattle.apron_run.specs.Opened.{Reached, opened_board}
 use Rattle.apron_run.specs.Chart.{AtDay, IsChart}
 use Rattle.apron_run.specs.Complete.{HasSeason}
 use Rattle.apron_run.specs.End.{EndsUntouched, status_of}
@@ -28,7 +29,7 @@ use Rattle.apron_run.specs.Import.{AtSeason, FindsSeason, Tells, most_season}
 use Rattle.apron_run.specs.Init.{AtInit}
 use Rattle.apron_run.specs.PlanText.{AtPlan}
 use Rattle.apron_run.specs.TwoFiles.{WithFiles}
-use Rattle.apron_run.specs.World.{World}
+use Rattle.apron_run.specs.World.{RunWorld, World}
 use Rattle.apron_run.specs.declared.end.End.{End}
 use Rattle.apron_run.specs.declared.end.End.TheVariants.{Printed, Imported as Ended, Faulty, Memory as Wanting, Unusable as Unworkable}
 use Rattle.apron_run.specs.declared.imported.Imported.{Imported}
@@ -54,8 +55,8 @@ all_next airport (new ∷ visits) before after (mid, one, rest) =
     omega arith
 
 -- a word that begins with two files ends well if it does with their airport
-module _ (made : AirportFiles) (airport types : List ℕ) (before after : World) (end : End) (has : HasFiles before.shelf airport types made)
-    (still : ¬ (Rose before.shelf.faults after.shelf.faults)) (At : AirportFiles → World → World → End → Type 0)
+module _ {In Out : Type 0} (made : AirportFiles) (airport types : List ℕ) (before after : World In Out) (end : End) (has : HasFiles before.shelf airport types made)
+    (still : ¬ (Rose before.shelf.faults after.shelf.faults)) (At : AirportFiles → World In Out → World In Out → End → Type 0)
     (well : (shelf : ShelfState) → shelf.faults ≡ before.shelf.faults → ((name : List ℕ) → shelf.file name ≡ before.shelf.file name)
     → At made (record before { shelf = shelf }) after end → Well (status_of end)) where
   abbrev AtFound : ShelfState → Result AirportFiles FilesFault → Type 0
@@ -85,7 +86,7 @@ module _ (made : AirportFiles) (airport types : List ℕ) (before after : World)
       (found_well before.shelf does.shelf airport types made has does.found finds.cause (files_fail does.found does.shelf finds does.at))
 
 -- a journal is made on an empty disk
-pub init_well : (made : AirportFiles) (before after : World) (end : End) → before.disk.contents ≡ Some [] → ¬ (Rose before.disk.faults after.disk.faults)
+pub init_well : (made : AirportFiles) (before after : RunWorld) (end : End) → before.disk.contents ≡ Some [] → ¬ (Rose before.disk.faults after.disk.faults)
     → AtInit made before after end → Well (status_of end)
 init_well made before after (Printed text) empty disk at = inl refl
 init_well made before after (Unworkable (Journal journal.DiskFault)) empty disk at = let counts = at.uses.1 in absurd (disk counts.1)
@@ -94,7 +95,7 @@ init_well made before after (Unworkable (Journal journal.NotEmpty)) empty disk a
 init_well made before after end empty disk at = absurd at
 
 -- a text is made of a journal
-module _ (made : AirportFiles) (history : List Entry) (before after : World) (has : HasJournal made before.disk history) (disk : ¬ (Rose before.disk.faults after.disk.faults)) where
+module _ (made : AirportFiles) (history : List Entry) (before after : RunWorld) (has : HasJournal made before.disk history) (disk : ¬ (Rose before.disk.faults after.disk.faults)) where
   pub plan_well : (Answers : AirportParts → List Entry → List ℕ → Type 0) (end : End) → AtPlan Answers made before after end → Well (status_of end)
   plan_well Answers (Printed text) at = inl refl
   plan_well Answers Wanting at = inr refl
@@ -230,7 +231,7 @@ moved_season airport season shelf other start same valid = record {
 }
 
 -- an import into a journal
-module _ (made : AirportFiles) (history : List Entry) (season : List ℕ) (before after : World) (has : HasJournal made before.disk history)
+module _ (made : AirportFiles) (history : List Entry) (season : List ℕ) (before after : RunWorld) (has : HasJournal made before.disk history)
     (valid : HasSeason made.airport before.shelf season (opened_board made.airport history before.disk.faults))
     (shelf : ¬ (Rose before.shelf.faults after.shelf.faults)) (disk : ¬ (Rose before.disk.faults after.disk.faults)) where
   abbrev begun : Reached

@@ -2,6 +2,8 @@
 use Rattle.std.proofs.Common.{◌≡◌, ◌≢◌, ℕ, List, length, refl, ap, subst, false, Option, None, Some}
 use Rattle.std.specs.Prelude.{IfSome}
 use Rattle.apron_base.specs.Counts.{Counts}
+use Rattle.apron_base.specs.Ends.{SinkState, SourceState}
+use Rattle.apron_base.specs.Shelf.{ShelfState}
 use Rattle.journal_disk.specs.Disk.{Between, DiskState, IfExposed, IsSafe, Stays, TellsAlike}
 use Rattle.journal_disk.specs.Faults.{InitFails}
 use Rattle.journal_disk.specs.Header.{empty_journal}
@@ -9,9 +11,14 @@ use Rattle.journal_disk.specs.declared.fault.JournalFault.{JournalFault}
 use Rattle.journal_disk.specs.declared.fault.JournalFault.TheVariants as journal
 use Rattle.apron_check.specs.declared.files.AirportFiles.{AirportFiles}
 use Rattle.apron_run.specs.Init.{AtInit, IsJournalMade}
-use Rattle.apron_run.specs.World.{World}
+use Rattle.apron_run.specs.World.{OnDisk, World, run_world}
 use Rattle.apron_run.specs.declared.end.End.TheVariants.{Unusable}
 use Rattle.apron_run.specs.declared.unusable.Unusable.TheVariants.{Journal}
+
+-- of a world no more than its disk was used, in this way
+pub disk_used : {In Out : Type 0} {Uses : DiskState → DiskState → Type 0} (world : World In Out) (left : DiskState) → Uses world.disk left
+    → OnDisk Uses world (record world { disk = left })
+disk_used world left uses = record { shelf = refl; source = refl; listeners = refl; screens = refl; sink = refl; uses = uses }
 
 -- what holds of what is exposed, if it is
 pub if_told : (contents : Option (List ℕ)) (P : List ℕ → Type 0) → ((bytes : List ℕ) → contents ≡ Some bytes → P bytes) → IfSome contents P
@@ -42,19 +49,11 @@ is_made digests before after empty safe alike reads counts = record {
 }
 
 -- why none was made
-pub is_refused : (files : AirportFiles) (before after : World) (fault : JournalFault) → after.shelf ≡ before.shelf → after.source ≡ before.source → after.sink ≡ before.sink
-    → InitFails before.disk after.disk fault → IfExposed before.disk (λ bytes. length bytes ≢ 0 → Stays before.disk after.disk)
-    → AtInit files before after (Unusable (Journal fault))
-is_refused files before after journal.DiskFault shelf source sink fails spares = record {
-  shelf = shelf;
-  source = source;
-  sink = sink;
-  uses = (if_told before.disk.contents (λ bytes. length bytes ≢ 0 → Stays before.disk after.disk) spares, fails);
-}
-is_refused files before after journal.NotEmpty shelf source sink (told, stays, counts) spares = record {
-  shelf = shelf;
-  source = source;
-  sink = sink;
-  uses = (if_told before.disk.contents (λ bytes. length bytes ≢ 0) told, record { stays = stays; faults = counts });
-}
-is_refused files before after fault shelf source sink fails spares = absurd fails
+pub is_refused : (files : AirportFiles) (shelf : ShelfState) (source : SourceState) (sink : SinkState) (before after : DiskState) (fault : JournalFault)
+    → InitFails before after fault → IfExposed before (λ bytes. length bytes ≢ 0 → Stays before after)
+    → AtInit files (run_world shelf source sink before) (run_world shelf source sink after) (Unusable (Journal fault))
+is_refused files shelf source sink before after journal.DiskFault fails spares =
+    disk_used (run_world shelf source sink before) after (if_told before.contents (λ bytes. length bytes ≢ 0 → Stays before after) spares, fails)
+is_refused files shelf source sink before after journal.NotEmpty (told, stays, counts) spares =
+    disk_used (run_world shelf source sink before) after (if_told before.contents (λ bytes. length bytes ≢ 0) told, record { stays = stays; faults = counts })
+is_refused files shelf source sink before after fault fails spares = absurd fails

@@ -6,12 +6,12 @@ use Rattle.apron_rules.specs.declared.parts.AirportParts.{AirportParts}
 use Rattle.visit_book.specs.declared.visits.NewVisit.{NewVisit}
 use Rattle.history_core.specs.Board.{BoardHeld, machine_state}
 use Rattle.apron_check.specs.declared.files.AirportFiles.{AirportFiles}
-use Rattle.apron_run.specs.Asking.{AsksSeason, MeetsAll, Reached, opened_board}
+use Rattle.apron_run.specs.Asking.{AsksSeason, MeetsAll}
 use Rattle.apron_run.specs.Import.{FindsSeason, ImportsSeason}
 use Rattle.apron_run.specs.Journal.{KeepsHistory}
-use Rattle.apron_run.specs.Opened.{IsOpened}
+use Rattle.apron_run.specs.Opened.{IsOpened, Reached, opened_board}
 use Rattle.apron_run.specs.Survival.{Survives}
-use Rattle.apron_run.specs.World.{World}
+use Rattle.apron_run.specs.World.{RunWorld}
 use Rattle.apron_run.specs.declared.imported.Imported.{Imported}
 
 -- the count of faults, while visits are met
@@ -25,7 +25,7 @@ AsksFound airport found before after imported =
     MatchResult found (λ visits. AsksSeason airport visits before after imported) (λ why. (after ≡ before) × (imported ≡ why))
 
 -- an import into a board that was opened
-abbrev pub season_imported : {K : Type 0} (tells : K → KeeperState) (files : AirportFiles) (season : List ℕ) (before after : World) (board left : BoardHeld K) (imported : Imported)
+abbrev pub season_imported : {K : Type 0} (tells : K → KeeperState) (files : AirportFiles) (season : List ℕ) (before after : RunWorld) (board left : BoardHeld K) (imported : Imported)
     → IsOpened tells files before.disk board
     → ((found : Result (List NewVisit) Imported) × FindsSeason board.airport season before.shelf after.shelf found
     × AsksFound board.airport found (machine_state tells board) (machine_state tells left) imported)

@@ -22,7 +22,7 @@ use Rattle.apron_run.specs.Statuses.{exit_code}
 use Rattle.apron_run.specs.Upgrade.{AtUpgrade}
 use Rattle.apron_run.specs.Words.{Subcommand, desk, init, import, upgrade, help, uses_disk, uses_source}
 use Rattle.apron_run.specs.WordsShown.{subcommand_at}
-use Rattle.apron_run.specs.World.{Untouched, World}
+use Rattle.apron_run.specs.World.{RunWorld, Untouched, World}
 use Rattle.apron_run.specs.declared.end.End.{End}
 use Rattle.apron_run.specs.declared.end.End.TheVariants.{Printed, Served, Imported, Faulty, Memory as Wanting, Unusable as Unworkable}
 use Rattle.apron_run.specs.declared.imported.Imported.TheVariants as imports
@@ -31,14 +31,15 @@ use Rattle.apron_run.specs.declared.unusable.Unusable.{Unusable}
 use Rattle.apron_run.specs.declared.unusable.Unusable.TheVariants.{Journal, Entries}
 use Rattle.apron_run.specs.declared.words.Asked.{Asked}
 use Rattle.apron_run.specs.declared.words.Asked.TheVariants as word
+use Rattle.apron_run.proofs.Disks.{disk_used}
 use Rattle.apron_run.proofs.Fronts.{unwritten_same}
 
 -- nothing is used if nothing is called
-pub untouched_same : (world : World) → Untouched world world
-untouched_same world = record { shelf = refl; source = refl; sink = refl; uses = unwritten_same world.disk }
+pub untouched_same : {In Out : Type 0} (world : World In Out) → Untouched world world
+untouched_same world = disk_used world world.disk (unwritten_same world.disk)
 
 -- what is done if the two files make no airport
-pub fault_does : (feeds : FeedTexts) (airport types : List ℕ) (asked : Asked) (before : World) (shelf : ShelfState) (fault : FilesFault)
+pub fault_does : (feeds : FeedTexts) (airport types : List ℕ) (asked : Asked) (before : RunWorld) (shelf : ShelfState) (fault : FilesFault)
     → FindsFiles before.shelf shelf airport types (Err fault) → DoesAsked feeds (subcommand_at airport types asked) before (record before { shelf = shelf }) (Faulty fault)
 fault_does feeds airport types word.Desk before shelf fault finds =
     record { found = Err fault; shelf = shelf; finds = finds; at = (refl, untouched_same (record before { shelf = shelf })) }
@@ -69,14 +70,14 @@ module _ (uses : ℕ → Bool) (failed : uses (exit_code DiskFault) ≡ true) (n
   unworkable_used before after (Entries entries.Memory) cause = wanting
   unworkable_used before after (Entries fault) cause = none
 
-  pub plan_used : uses (exit_code Done) ≡ true → (Answers : AirportParts → List Entry → List ℕ → Type 0) (before after : World) (end : End) → AtPlan Answers made before after end
+  pub plan_used : uses (exit_code Done) ≡ true → (Answers : AirportParts → List Entry → List ℕ → Type 0) (before after : RunWorld) (end : End) → AtPlan Answers made before after end
       → uses (exit_code (status_of end)) ≡ true
   plan_used all Answers before after (Printed text) at = all
   plan_used all Answers before after Wanting at = wanting
   plan_used all Answers before after (Unworkable why) at = unworkable_used before.disk after.disk why (let not = at.uses in not.cause)
   plan_used all Answers before after end at = absurd at.2
 
-module _ (airport types : List ℕ) (made : AirportFiles) (before after : World) where
+module _ (airport types : List ℕ) (made : AirportFiles) (before after : RunWorld) where
   -- a session takes the source, unless there is no journal to work on
   pub desk_source : {P : Type 0} (feeds : FeedTexts) (end : End) → AtDesk feeds made before after end → ((why : Unusable) → end ≡ Unworkable why → P)
       → uses_source (desk airport types) (exit_code (status_of end)) ≡ false → P

@@ -38,7 +38,7 @@ use Rattle.apron_check.specs.declared.files.AirportFiles.{AirportFiles}
 use Rattle.apron_run.specs.Desk.{ServesDesk, session_state, new_port}
 use Rattle.apron_run.specs.Journal.{IsOf, KeepsHistory, NotOpened, OpensTo, WhyUnusable}
 use Rattle.apron_run.specs.Opened.{IsOpened}
-use Rattle.apron_run.specs.World.{Unwritten, World}
+use Rattle.apron_run.specs.World.{Unwritten, RunWorld}
 use Rattle.apron_run.specs.Survival.{Survives}
 use Rattle.apron_run.specs.declared.unusable.Unusable.{Unusable}
 use Rattle.apron_run.specs.declared.unusable.Unusable.TheVariants.{Journal, Entries}
@@ -243,7 +243,7 @@ all_sound airport history legal front back is = legal_sound airport front (front
 
 -- a session of a desk alone over a board that was opened and got these watches, with the disk that
 -- was closed after it
-abbrev pub desk_serves : {K R : Type 0} (tells : K → KeeperState) (shows : R → Note → Bool) (watches : List (Watched R)) (files : AirportFiles) (before after : World)
+abbrev pub desk_serves : {K R : Type 0} (tells : K → KeeperState) (shows : R → Note → Bool) (watches : List (Watched R)) (files : AirportFiles) (before after : RunWorld)
     (board : BoardHeld K) (start done : AloneMachine (WatchHeld K R)) (outcome : Outcome) → IsOpened tells files before.disk board
     → start.machine ≡ record { board = board; watches = watches; next = board.next } → start.first ≡ board.next
     → FedSessionOf AloneAsks (AloneFeeds (watch_text shows (watch_fixed start.machine))) start.machine.board.airport

@@ -34,7 +34,7 @@ use Rattle.apron_run.specs.Complete.{HasInput, takes_number}
 use Rattle.apron_run.specs.Desk.{AtDesk, ServesDesk, session_state, new_port}
 use Rattle.apron_run.specs.End.{status_of}
 use Rattle.apron_run.specs.Journal.{OpensTo}
-use Rattle.apron_run.specs.World.{World}
+use Rattle.apron_run.specs.World.{RunWorld}
 use Rattle.apron_run.specs.declared.end.End.{End}
 use Rattle.apron_run.specs.declared.end.End.TheVariants.{Served, Unusable as Unworkable}
 use Rattle.apron_run.specs.declared.status.Status.TheVariants.{Done}
@@ -197,7 +197,7 @@ module _ (input : List ℕ) (listed : List Request) where
   comes_to_done other ending requests last reads ends are to = absurd to
 
 -- a session on a journal
-module _ (feeds : FeedTexts) (made : AirportFiles) (history : List Entry) (before after : World) (has : HasJournal made before.disk history)
+module _ (feeds : FeedTexts) (made : AirportFiles) (history : List Entry) (before after : RunWorld) (has : HasJournal made before.disk history)
     (valid : HasInput made.airport before.source history) (source : ¬ (Rose before.source.faults after.source.faults)) (sink : ¬ (Rose before.sink.faults after.sink.faults))
     (disk : ¬ (Rose before.disk.faults after.disk.faults)) where
   -- that had memory and call numbers enough

@@ -11,7 +11,7 @@ use Rattle.apron_check.specs.declared.files.AirportFiles.{AirportFiles}
 use Rattle.apron_run.specs.Converting.{CannotConvert, Converts, Spelt}
 use Rattle.apron_run.specs.End.{status_of}
 use Rattle.apron_run.specs.Upgrade.{AtUpgrade, CanUpgrade, NotUpgraded}
-use Rattle.apron_run.specs.World.{World}
+use Rattle.apron_run.specs.World.{RunWorld}
 use Rattle.apron_run.specs.declared.end.End.{End}
 use Rattle.apron_run.specs.declared.end.End.TheVariants.{Printed, Unusable as Unworkable}
 use Rattle.apron_run.specs.declared.status.Status.TheVariants.{Memory}
@@ -57,7 +57,7 @@ module _ (made : AirportFiles) (before after : DiskState) (can : CanUpgrade made
   failed_wants (Entries (entries.WrongEntry number)) (unwritten, old, was, wrong) disk = absurd wrong
   failed_wants (Entries entries.Memory) fails disk = refl
 
-pub upgrade_well : (made : AirportFiles) (before after : World) (end : End) → CanUpgrade made before.disk → ¬ (Rose before.disk.faults after.disk.faults)
+pub upgrade_well : (made : AirportFiles) (before after : RunWorld) (end : End) → CanUpgrade made before.disk → ¬ (Rose before.disk.faults after.disk.faults)
     → AtUpgrade made before after end → Well (status_of end)
 upgrade_well made before after (Printed text) can disk at = inl refl
 upgrade_well made before after (Unworkable why) can disk at = inr (failed_wants made before.disk after.disk can why at.uses disk)

@@ -1,7 +1,6 @@
 -- What comes of asking to add the visits of a season, one after the other.
 use Rattle.std.specs.Prelude.{◌≡◌, ◌⊎◌, ◌+◌, ℕ, true, None, IfSome, List, [], ◌∷◌, ◌++◌, length}
 use Rattle.apron_base.specs.Counts.{Counts}
-use Rattle.apron_base.specs.Machine.{MachineState}
 use Rattle.apron_base.specs.declared.numbers.VisitNo.{VisitNo}
 use Rattle.apron_rules.specs.declared.parts.AirportParts.{AirportParts}
 use Rattle.visit_book.specs.declared.visits.NewVisit.{NewVisit}
@@ -9,30 +8,14 @@ use Rattle.visit_book.specs.declared.visits.Visit.{Visit}
 use Rattle.plan_core.specs.Names.{visit_named}
 use Rattle.plan_core.specs.PlanState.{PlanState}
 use Rattle.desk_asks.specs.declared.asks.Command.TheVariants.{AddVisit}
-use Rattle.desk_asks.specs.declared.asks.Entry.{Entry}
 use Rattle.desk_asks.specs.declared.asks.What.TheVariants.{Change}
 use Rattle.history_core.specs.Answer.{added_entries}
 use Rattle.history_core.specs.AtRisk.{IsAskedFor}
 use Rattle.history_core.specs.History.{call_limit, replay}
-use Rattle.history_core.specs.Opening.{next_after}
 use Rattle.history_core.specs.Acceptance.{IsOtherName, IsSameName, Stepped, TakenAs, accepted, full, name, refused, repeated}
+use Rattle.apron_run.specs.Opened.{Reached}
 use Rattle.apron_run.specs.declared.imported.Imported.{Imported}
 use Rattle.apron_run.specs.declared.imported.Imported.TheVariants.{Whole, Refused, Full, DiskFault, Spent, Memory}
-
--- what a board has come to
-abbrev pub Reached : Type 0
-Reached = MachineState Entry AirportParts
-
--- a board that was opened with this history, after which no entry is at risk, over a disk that had
--- failed this often
-abbrev pub opened_board : AirportParts → List Entry → ℕ → Reached
-opened_board airport opened faults = record {
-  fixed = airport;
-  history = opened;
-  at_risk = None;
-  next = next_after opened;
-  faults = faults;
-}
 
 -- a visit of the plan has the name, and was added with the same
 abbrev pub IsThere : PlanState → NewVisit → Type 0

@@ -7,7 +7,7 @@ use Rattle.history_core.specs.History.{replay}
 use Rattle.apron_check.specs.declared.files.AirportFiles.{AirportFiles}
 use Rattle.apron_run.specs.End.{EndsUntouched}
 use Rattle.apron_run.specs.PlanText.{AtPlan}
-use Rattle.apron_run.specs.World.{World}
+use Rattle.apron_run.specs.World.{RunWorld}
 use Rattle.apron_run.specs.declared.end.End.{End}
 use Rattle.apron_run.specs.declared.end.End.TheVariants as ended
 
@@ -17,6 +17,6 @@ IsChart day airport history text = text ≡ chart_text airport (replay airport h
 
 -- what the word does at these files: the chart of a day of the plan in their journal is printed, if
 -- there is such a day
-abbrev pub AtDay : AirportFiles → Option ℕ → World → World → End → Type 0
+abbrev pub AtDay : AirportFiles → Option ℕ → RunWorld → RunWorld → End → Type 0
 AtDay files (Some day) = AtPlan (IsChart day) files
 AtDay files None = EndsUntouched ended.Unasked

@@ -16,13 +16,14 @@ use Rattle.desk_http.specs.Routes.{ask_of_request, said_in}
 use Rattle.desk_http.specs.Session.{most_requests}
 use Rattle.apron_check.specs.Files.{Make}
 use Rattle.apron_check.specs.declared.files.AirportFiles.{AirportFiles}
-use Rattle.apron_run.specs.Asking.{MeetsAll, Reached, opened_board}
+use Rattle.apron_run.specs.Asking.{MeetsAll}
+use Rattle.apron_run.specs.Opened.{Reached, opened_board}
 use Rattle.apron_run.specs.Import.{Tells}
 use Rattle.apron_run.specs.Journal.{OpensTo}
 use Rattle.apron_run.specs.Statuses.{exit_code}
 use Rattle.apron_run.specs.Upgrade.{CanUpgrade}
 use Rattle.apron_run.specs.Words.{Subcommand, desk, init, check, chart, import, export, propose, upgrade, make, help, version, faulty, number_within}
-use Rattle.apron_run.specs.World.{World}
+use Rattle.apron_run.specs.World.{RunWorld, World}
 use Rattle.apron_run.specs.declared.status.Status.TheVariants.{Done, Memory}
 
 -- whether a request takes a call number: it asks for a feed if it names one, and else something of
@@ -72,7 +73,7 @@ OnJournal shelf disk airport types Holds = OnFiles shelf airport types
 
 -- what is asked can be done with what there is at the beginning, within all limits: one line for
 -- each word
-abbrev pub CanBeRun : Subcommand → World → Type 0
+abbrev pub CanBeRun : Subcommand → RunWorld → Type 0
 CanBeRun (desk airport types) world = OnJournal world.shelf world.disk airport types
     (λ files history. HasInput files.airport world.source history)
 CanBeRun (init airport types) world =
@@ -95,12 +96,12 @@ CanBeRun version world = Unit {0}
 CanBeRun faulty world = ⊥
 
 -- neither the shelf's count of faults nor the disk's rose or is at its greatest value
-pub record NoFileFails (before after : World) : Type 0 where
+pub record NoFileFails {In Out : Type 0} (before after : World In Out) : Type 0 where
   pub shelf : ¬ (Rose before.shelf.faults after.shelf.faults)
   pub disk : ¬ (Rose before.disk.faults after.disk.faults)
 
 -- and neither did that of the source or the sink
-pub record NoneFails (before after : World) : Type 0 where
+pub record NoneFails (before after : RunWorld) : Type 0 where
   pub files : NoFileFails before after
   pub source : ¬ (Rose before.source.faults after.source.faults)
   pub sink : ¬ (Rose before.sink.faults after.sink.faults)
@@ -110,5 +111,5 @@ abbrev pub EndsWell : ℕ → Type 0
 EndsWell code = (code ≡ exit_code Done) ⊎ (code ≡ exit_code Memory)
 
 -- what is valid ends well, if nothing fails
-pub record IsRunComplete (asked : Subcommand) (before after : World) (code : ℕ) : Type 0 where
+pub record IsRunComplete (asked : Subcommand) (before after : RunWorld) (code : ℕ) : Type 0 where
   pub well : CanBeRun asked before → NoneFails before after → EndsWell code

@@ -13,12 +13,12 @@ use Rattle.desk_workers.specs.Watched.{FeedTexts}
 use Rattle.apron_check.specs.declared.files.AirportFiles.{AirportFiles}
 use Rattle.apron_run.specs.Journal.{KeepsHistory, WithJournal}
 use Rattle.apron_run.specs.Survival.{Survives}
-use Rattle.apron_run.specs.World.{World}
+use Rattle.apron_run.specs.World.{RunWorld}
 use Rattle.apron_run.specs.declared.end.End.{End}
 use Rattle.apron_run.specs.declared.end.End.TheVariants as ended
 
 -- what a session knows of its ends and of its port
-abbrev pub session_state : World → PortState → SessionState
+abbrev pub session_state : RunWorld → PortState → SessionState
 session_state world port = record { source = world.source; sink = world.sink; port = port }
 
 -- a desk that has made no call yet: it has seen the opened history, no entry is at risk, its calls
@@ -46,7 +46,7 @@ module _ (feeds : FeedTexts) where
   -- survives a crash, and after each of its entries the plan is sound. The disk is the journal of
   -- the same files with it; or, if it has failed, with it and perhaps the entry of a request whose
   -- reply said that it could not be kept, after which none was added, and with which it is legal.
-  pub record ServesDesk (files : AirportFiles) (opened : List Entry) (before after : World)
+  pub record ServesDesk (files : AirportFiles) (opened : List Entry) (before after : RunWorld)
       (outcome : Outcome) : Type 0 where
     pub port : PortState
     pub session : SessionBy
@@ -63,11 +63,11 @@ module _ (feeds : FeedTexts) where
     pub survives : Survives files.digests port.seen port.at_risk before.disk after.disk
 
   -- a session is served at the opened history
-  abbrev pub ServesSession : AirportFiles → List Entry → World → World → End → Type 0
+  abbrev pub ServesSession : AirportFiles → List Entry → RunWorld → RunWorld → End → Type 0
   ServesSession files opened before after (ended.Served outcome) = (after.shelf ≡ before.shelf)
       × ServesDesk files opened before after outcome
   ServesSession files opened before after end = ⊥
 
   -- what the word does at these files: a session on their journal
-  abbrev pub AtDesk : AirportFiles → World → World → End → Type 0
+  abbrev pub AtDesk : AirportFiles → RunWorld → RunWorld → End → Type 0
   AtDesk = WithJournal ServesSession

@@ -20,7 +20,7 @@ use Rattle.apron_run.specs.declared.status.Status.TheVariants.{Done, Usage, File
 use Rattle.apron_run.specs.declared.unusable.Unusable.TheVariants.{Journal, Entries}
 
 -- it ended so, and nothing of the outside was used
-abbrev pub EndsUntouched : End → World → World → End → Type 0
+abbrev pub EndsUntouched : {In Out : Type 0} → End → World In Out → World In Out → End → Type 0
 EndsUntouched so before after end = (end ≡ so) × Untouched before after
 
 -- its status
@@ -87,8 +87,8 @@ TellsEnd end before after status = MatchOption (line_of end)
 -- what came of a run or of serving, by what it does from one moment to the one at which no more
 -- than the last line is to be written: this was done, then the line of its end was written, and the
 -- number is that of its status
-pub record EndsAs (Does : World → World → End → Type 0) (before after : World)
-    (code : ℕ) : Type 0 where
+pub record EndsAs {In Out : Type 0} (Does : World In Out → World In Out → End → Type 0)
+    (before after : World In Out) (code : ℕ) : Type 0 where
   pub status : Status
   pub code_is : code ≡ exit_code status
   pub written : SinkState

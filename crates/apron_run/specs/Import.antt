@@ -7,10 +7,11 @@ use Rattle.visit_book.specs.declared.visits.NewVisit.{NewVisit}
 use Rattle.season_files.specs.Seasons.{season_in}
 use Rattle.desk_asks.specs.declared.asks.Entry.{Entry}
 use Rattle.apron_check.specs.declared.files.AirportFiles.{AirportFiles}
-use Rattle.apron_run.specs.Asking.{AsksSeason, Reached, opened_board}
+use Rattle.apron_run.specs.Asking.{AsksSeason}
+use Rattle.apron_run.specs.Opened.{Reached, opened_board}
 use Rattle.apron_run.specs.Journal.{KeepsHistory, WithJournal}
 use Rattle.apron_run.specs.Survival.{Survives}
-use Rattle.apron_run.specs.World.{World}
+use Rattle.apron_run.specs.World.{RunWorld}
 use Rattle.apron_run.specs.declared.end.End.{End}
 use Rattle.apron_run.specs.declared.end.End.TheVariants as ended
 use Rattle.apron_run.specs.declared.imported.Imported.{Imported}
@@ -63,7 +64,7 @@ pub record FindsSeason (airport : AirportParts) (season : List ℕ) (before afte
 -- file, if any, with call numbers from one above the last entry's on, and left the disk with the
 -- history as it then was, which survives a crash.
 pub record ImportsSeason (season : List ℕ) (files : AirportFiles) (opened : List Entry)
-    (before after : World) (imported : Imported) : Type 0 where
+    (before after : RunWorld) (imported : Imported) : Type 0 where
   pub found : Result (List NewVisit) Imported
   pub finds : FindsSeason files.airport season before.shelf after.shelf found
   pub left : Reached
@@ -76,12 +77,12 @@ pub record ImportsSeason (season : List ℕ) (files : AirportFiles) (opened : Li
   pub survives : Survives files.digests left.history left.at_risk before.disk after.disk
 
 -- the season is imported into the opened history
-abbrev pub TakesSeason : List ℕ → AirportFiles → List Entry → World → World → End → Type 0
+abbrev pub TakesSeason : List ℕ → AirportFiles → List Entry → RunWorld → RunWorld → End → Type 0
 TakesSeason season files opened before after (ended.Imported how) =
     (after.source ≡ before.source) × (after.sink ≡ before.sink)
     × ImportsSeason season files opened before after how
 TakesSeason season files opened before after end = ⊥
 
 -- what the word does at these files: an import into their journal
-abbrev pub AtSeason : List ℕ → AirportFiles → World → World → End → Type 0
+abbrev pub AtSeason : List ℕ → AirportFiles → RunWorld → RunWorld → End → Type 0
 AtSeason season = WithJournal (TakesSeason season)

@@ -6,7 +6,7 @@ use Rattle.journal_disk.specs.Header.{empty_journal}
 use Rattle.journal_disk.specs.declared.fault.JournalFault.TheVariants as journal
 use Rattle.apron_check.specs.declared.files.AirportFiles.{AirportFiles}
 use Rattle.apron_run.specs.Print.{made_text}
-use Rattle.apron_run.specs.World.{OnDisk, Unwritten, World}
+use Rattle.apron_run.specs.World.{OnDisk, Unwritten, RunWorld}
 use Rattle.apron_run.specs.declared.end.End.{End}
 use Rattle.apron_run.specs.declared.end.End.TheVariants as ended
 use Rattle.apron_run.specs.declared.unusable.Unusable.TheVariants.{Journal}
@@ -21,7 +21,7 @@ pub record IsJournalMade (digests : List ℕ) (before after : DiskState) : Type 
 
 -- what the word does at these files: a journal was made of them; or the disk failed, and if it had
 -- bytes nothing was written; or it had bytes, and has them still
-abbrev pub AtInit : AirportFiles → World → World → End → Type 0
+abbrev pub AtInit : AirportFiles → RunWorld → RunWorld → End → Type 0
 AtInit files before after (ended.Printed text) = (text ≡ made_text)
     × OnDisk (IsJournalMade files.digests) before after
 AtInit files before after (ended.Unusable (Journal journal.DiskFault)) = OnDisk (λ old new.

@@ -43,15 +43,17 @@ pub record NotOpened (files : AirportFiles) (before after : DiskState)
   pub cause : WhyUnusable files before after why
 
 -- there is no journal of the files to work on, and nothing else was used
-abbrev pub NoJournal : AirportFiles → Unusable → World → World → Type 0
+abbrev pub NoJournal : {In Out : Type 0} → AirportFiles → Unusable → World In Out → World In Out
+    → Type 0
 NoJournal files why before after =
     OnDisk (λ old new. NotOpened files old new why) before after
 
 -- by what it does at the history that the journal opened to
-module _ (At : AirportFiles → List Entry → World → World → End → Type 0) where
+module _ {In Out : Type 0}
+    (At : AirportFiles → List Entry → World In Out → World In Out → End → Type 0) where
   -- the journal of these files opened to a history, and this was done there; or there is none to
   -- work on
-  abbrev pub WithJournal : AirportFiles → World → World → End → Type 0
+  abbrev pub WithJournal : AirportFiles → World In Out → World In Out → End → Type 0
   WithJournal files before after (ended.Unusable why) = NoJournal files why before after
   WithJournal files before after end =
       (opened : List Entry) × OpensTo files before.disk opened × At files opened before after end

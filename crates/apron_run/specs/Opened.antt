@@ -1,6 +1,9 @@
 -- A board that was opened over the journal of an airport.
 use Rattle.std.specs.Prelude.{◌≡◌, ℕ, List, length, None, IfSome, Ok}
 use Rattle.apron_base.specs.Keeper.{KeeperState}
+use Rattle.apron_base.specs.Machine.{MachineState}
+use Rattle.apron_rules.specs.declared.parts.AirportParts.{AirportParts}
+use Rattle.desk_asks.specs.declared.asks.Entry.{Entry}
 use Rattle.history_core.specs.Board.{BoardHeld}
 use Rattle.history_core.specs.Opening.{next_after}
 use Rattle.journal_disk.specs.Disk.{DiskState}
@@ -8,6 +11,21 @@ use Rattle.journal_disk.specs.Extent.{JournalHeld, keeper_of}
 use Rattle.journal_disk.specs.Header.{opening_of}
 use Rattle.apron_check.specs.declared.files.AirportFiles.{AirportFiles}
 use Rattle.apron_run.specs.Journal.{OpensTo}
+
+-- what a board has come to
+abbrev pub Reached : Type 0
+Reached = MachineState Entry AirportParts
+
+-- a board that was opened with this history, after which no entry is at risk, over a disk that had
+-- failed this often
+abbrev pub opened_board : AirportParts → List Entry → ℕ → Reached
+opened_board airport opened faults = record {
+  fixed = airport;
+  history = opened;
+  at_risk = None;
+  next = next_after opened;
+  faults = faults;
+}
 
 -- what a journal tells as a keeper, by what its disk tells
 abbrev pub journal_tells : {D : Type 0} → (D → DiskState) → JournalHeld D → KeeperState

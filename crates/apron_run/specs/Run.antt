@@ -4,7 +4,7 @@ use Rattle.desk_workers.specs.Watched.{FeedTexts}
 use Rattle.apron_check.specs.Lines.{counts_line}
 use Rattle.apron_run.specs.Words.{Subcommand, desk, init, check, chart, import, export, propose, upgrade, make, help, version, faulty, number_within}
 use Rattle.apron_run.specs.End.{EndsAs, EndsUntouched}
-use Rattle.apron_run.specs.World.{World}
+use Rattle.apron_run.specs.World.{RunWorld}
 use Rattle.apron_run.specs.Desk.{AtDesk}
 use Rattle.apron_run.specs.Init.{AtInit}
 use Rattle.apron_run.specs.Chart.{AtDay}
@@ -23,7 +23,7 @@ use Rattle.apron_run.specs.declared.end.End.TheVariants as ended
 module _ (feeds : FeedTexts) where
   -- what is done for what the words ask for, from one moment to the one at which no more than the
   -- last line is to be written, and how it ends: one line for each
-  abbrev pub DoesAsked : Subcommand → World → World → End → Type 0
+  abbrev pub DoesAsked : Subcommand → RunWorld → RunWorld → End → Type 0
   DoesAsked (desk airport types) = WithFiles (AtDesk feeds) airport types
   DoesAsked (init airport types) = WithFiles AtInit airport types
   DoesAsked (check airport types) =
@@ -41,7 +41,7 @@ module _ (feeds : FeedTexts) where
 
   -- What the program does for what is asked of it, what a crash in the run or after it may leave,
   -- the line at its end, and the status of its number.
-  abbrev pub RunsAs : Subcommand → World → World → ℕ → Type 0
+  abbrev pub RunsAs : Subcommand → RunWorld → RunWorld → ℕ → Type 0
   RunsAs asked = EndsAs (DoesAsked asked)
 
 -- what isn't used stays as it is

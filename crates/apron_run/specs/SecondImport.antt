@@ -4,7 +4,8 @@ use Rattle.apron_base.specs.Histories.{Every}
 use Rattle.apron_rules.specs.declared.parts.AirportParts.{AirportParts}
 use Rattle.visit_book.specs.declared.visits.NewVisit.{NewVisit}
 use Rattle.history_core.specs.History.{IsLegal, replay}
-use Rattle.apron_run.specs.Asking.{AsksSeason, IsThere, MeetsAll, Reached}
+use Rattle.apron_run.specs.Asking.{AsksSeason, IsThere, MeetsAll}
+use Rattle.apron_run.specs.Opened.{Reached}
 use Rattle.apron_run.specs.declared.imported.Imported.{Imported}
 use Rattle.apron_run.specs.declared.imported.Imported.TheVariants.{Whole, Spent, Memory}
 

@@ -10,10 +10,11 @@ use Rattle.apron_run.specs.declared.end.End.{End}
 use Rattle.apron_run.specs.declared.end.End.TheVariants as ended
 
 -- by what it does at their airport
-module _ (At : AirportFiles → World → World → End → Type 0) where
+module _ {In Out : Type 0} (At : AirportFiles → World In Out → World In Out → End → Type 0) where
   -- the airport file and the type file of these names were read, and this was done at the airport
   -- that they make, or nothing if they make none
-  pub record WithFiles (airport types : List ℕ) (before after : World) (end : End) : Type 0 where
+  pub record WithFiles (airport types : List ℕ) (before after : World In Out)
+      (end : End) : Type 0 where
     pub found : Result AirportFiles FilesFault
     pub shelf : ShelfState
     pub finds : FindsFiles before.shelf shelf airport types found

@@ -15,7 +15,7 @@ use Rattle.apron_run.specs.Journal.{OpensTo}
 use Rattle.apron_run.specs.Print.{already_text, upgraded_text}
 use Rattle.apron_run.specs.Converting.{CannotConvert, Converts, Spelt}
 use Rattle.apron_run.specs.UpgradeCrash.{LeavesEither}
-use Rattle.apron_run.specs.World.{OnDisk, Unwritten, World}
+use Rattle.apron_run.specs.World.{OnDisk, Unwritten, RunWorld}
 use Rattle.apron_run.specs.declared.end.End.{End}
 use Rattle.apron_run.specs.declared.end.End.TheVariants as ended
 use Rattle.apron_run.specs.declared.unusable.Unusable.{Unusable}
@@ -64,7 +64,7 @@ NotUpgraded files before after (Entries fault) =
     × CannotConvert files.airport old fault
 
 -- what the word does at these files: their journal is upgraded, or is of format 2 already
-abbrev pub AtUpgrade : AirportFiles → World → World → End → Type 0
+abbrev pub AtUpgrade : AirportFiles → RunWorld → RunWorld → End → Type 0
 AtUpgrade files before after (ended.Printed text) =
     OnDisk (λ old new.
     ((count : ℕ) × (text ≡ upgraded_text count) × HasUpgraded files old new count)

@@ -3,7 +3,7 @@ ghost use Rattle.std.specs.Prelude.{◌≡◌};
 ghost use Rattle.apron_base.specs.Shelf.{ShelfState};
 ghost use Rattle.desk_workers.specs.Watched.{feed_texts};
 ghost use Rattle.apron_run.specs.Desk.{AtDesk};
-ghost use Rattle.apron_run.specs.World.{Unwritten, world_at};
+ghost use Rattle.apron_run.specs.World.{Unwritten, run_world};
 ghost use Rattle.apron_run.specs.declared.unusable.Unusable.{Unusable};
 
 use crate::End;
@@ -30,8 +30,8 @@ pub(crate) fn serve_desk<S: Source, W: Sink, D: Disk, R: Stated, T: NoteTest>(
     disk: &mut D,
 ) -> End
     ensures does { (shelf : ShelfState) → AtDesk (feed_texts R.tells watches.now) files.now
-        (world_at shelf (S.state source.old) (W.state sink.old) (D.state disk.old))
-        (world_at shelf (S.state source.new) (W.state sink.new) (D.state disk.new)) result }
+        (run_world shelf (S.state source.old) (W.state sink.old) (D.state disk.old))
+        (run_world shelf (S.state source.new) (W.state sink.new) (D.state disk.new)) result }
     ensures untaken { (why : Unusable) → result ≡ End.Unusable why → source.new ≡ source.old }
 {
     let (end, _disk) = serve_on::<Brand, S, W, D, R, T>(alloc, files, watches, source, sink, disk);
@@ -52,8 +52,8 @@ fn serve_on<'d, N: Named + OfFiles, S: Source, W: Sink, D: Disk, R: Stated, T: N
     requires begun { Unwritten N.begun (D.state disk.old) }
     ensures same { result.1.ghost_name ≡ disk.entry.ghost_name }
     ensures does { (shelf : ShelfState) → AtDesk (feed_texts R.tells watches.now) files.now
-        (world_at shelf (S.state source.old) (W.state sink.old) N.begun)
-        (world_at shelf (S.state source.new) (W.state sink.new) (D.state result.1.now)) result.0 }
+        (run_world shelf (S.state source.old) (W.state sink.old) N.begun)
+        (run_world shelf (S.state source.new) (W.state sink.new) (D.state result.1.now)) result.0 }
     ensures untaken { (why : Unusable) → result.0 ≡ End.Unusable why → source.new ≡ source.old }
 {
     let same: SameDisk<'d, N, D> = SameDisk {
@@ -79,8 +79,8 @@ fn serve_session<N: OfFiles, S: Source, W: Sink, D: Disk, R: Stated, T: NoteTest
     requires digests { files.now.digests ≡ N.digests }
     requires begun { Unwritten N.begun (D.state disk) }
     ensures does { (shelf : ShelfState) → AtDesk (feed_texts R.tells watches.now) files.now
-        (world_at shelf (S.state source.old) (W.state sink.old) N.begun)
-        (world_at shelf (S.state source.new) (W.state sink.new) (D.state result.1)) result.0 }
+        (run_world shelf (S.state source.old) (W.state sink.old) N.begun)
+        (run_world shelf (S.state source.new) (W.state sink.new) (D.state result.1)) result.0 }
     ensures untaken { (why : Unusable) → result.0 ≡ End.Unusable why → source.new ≡ source.old }
 {
     let watched = match open_watched::<N, D, R, T>(alloc, files, watches, disk) {

@@ -1,4 +1,4 @@
-// How a run ended, and the line that tells it. Writing one takes no memory.
+// How a run or serving ended, and the line that tells it. Writing one takes no memory.
 ghost use Rattle.std.specs.Prelude.{◌≡◌, IsOk, MatchOption};
 ghost use Rattle.apron_base.specs.Ends.{Puts};
 ghost use Rattle.apron_run.specs.End.{TellsEnd, cut_status_of, line_of, status_of};

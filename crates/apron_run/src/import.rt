@@ -2,7 +2,7 @@
 ghost use Rattle.std.specs.Prelude.{◌≡◌};
 ghost use Rattle.apron_base.specs.Ends.{SinkState, SourceState};
 ghost use Rattle.apron_run.specs.Import.{AtSeason};
-ghost use Rattle.apron_run.specs.World.{Unwritten, world_at};
+ghost use Rattle.apron_run.specs.World.{Unwritten, run_world};
 
 use crate::End;
 use crate::files_journal::OfFiles;
@@ -25,8 +25,8 @@ pub(crate) fn import_season<F: Shelf, D: Disk>(
     disk: &mut D,
 ) -> End
     ensures does { (source : SourceState) (sink : SinkState) → AtSeason season.now files.now
-        (world_at (F.state shelf.old) source sink (D.state disk.old))
-        (world_at (F.state shelf.new) source sink (D.state disk.new)) result }
+        (run_world (F.state shelf.old) source sink (D.state disk.old))
+        (run_world (F.state shelf.new) source sink (D.state disk.new)) result }
 {
     let (end, _disk) = import_on::<Brand, F, D>(alloc, files, season, shelf, disk);
     end
@@ -45,8 +45,8 @@ fn import_on<'d, N: Named + OfFiles, F: Shelf, D: Disk>(
     requires begun { Unwritten N.begun (D.state disk.old) }
     ensures same { result.1.ghost_name ≡ disk.entry.ghost_name }
     ensures does { (source : SourceState) (sink : SinkState) → AtSeason season.now files.now
-        (world_at (F.state shelf.old) source sink N.begun)
-        (world_at (F.state shelf.new) source sink (D.state result.1.now)) result.0 }
+        (run_world (F.state shelf.old) source sink N.begun)
+        (run_world (F.state shelf.new) source sink (D.state result.1.now)) result.0 }
 {
     let same: SameDisk<'d, N, D> = SameDisk {
         disk,
@@ -68,8 +68,8 @@ fn import_into<N: OfFiles, F: Shelf, D: Disk>(
     requires digests { files.now.digests ≡ N.digests }
     requires begun { Unwritten N.begun (D.state disk) }
     ensures does { (source : SourceState) (sink : SinkState) → AtSeason season.now files.now
-        (world_at (F.state shelf.old) source sink N.begun)
-        (world_at (F.state shelf.new) source sink (D.state result.1)) result.0 }
+        (run_world (F.state shelf.old) source sink N.begun)
+        (run_world (F.state shelf.new) source sink (D.state result.1)) result.0 }
 {
     let mut board = match open_board::<N, D>(alloc, files, Access::Appends, disk) {
         Ok(board) => board,

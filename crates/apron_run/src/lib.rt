@@ -1,6 +1,7 @@
 //! All words of the command line but `serve`: it reads the shelf's files, the source and the disk,
 //! does what the words ask for, and writes to the sink and the disk. Each word has a module of its
-//! own. It knows nothing of the system: files, streams and disks are those of its traits.
+//! own. What `serve` shares with them is here too: the world, how a command ends, and the journal. It
+//! knows nothing of the system: files, streams and disks are those of its traits.
 #![tactic(auto)]
 
 mod chart;

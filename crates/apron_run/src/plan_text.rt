@@ -4,7 +4,7 @@ ghost use Rattle.apron_base.specs.Ends.{SinkState, SourceState};
 ghost use Rattle.apron_base.specs.Shelf.{ShelfState};
 ghost use Rattle.journal_disk.specs.Disk.{Stays};
 ghost use Rattle.apron_run.specs.PlanText.{AtPlan};
-ghost use Rattle.apron_run.specs.World.{world_at};
+ghost use Rattle.apron_run.specs.World.{run_world};
 
 use crate::End;
 use crate::files_journal::OfFiles;
@@ -55,8 +55,8 @@ pub(crate) fn text_of_journal<T: PlanText, D: Disk>(
 ) -> End
     requires fits { T.fits asked.now files.now.airport }
     ensures does { (shelf : ShelfState) (source : SourceState) (sink : SinkState)
-        → AtPlan (T.answers asked.now) files.now (world_at shelf source sink (D.state disk.old))
-        (world_at shelf source sink (D.state disk.new)) result }
+        → AtPlan (T.answers asked.now) files.now (run_world shelf source sink (D.state disk.old))
+        (run_world shelf source sink (D.state disk.new)) result }
 {
     let (end, _disk) = text_on::<Brand, T, D>(alloc, files, asked, disk);
     end
@@ -75,8 +75,8 @@ fn text_on<'d, N: Named + OfFiles, T: PlanText, D: Disk>(
     requires fits { T.fits asked.now files.now.airport }
     ensures same { result.1.ghost_name ≡ disk.entry.ghost_name }
     ensures does { (shelf : ShelfState) (source : SourceState) (sink : SinkState)
-        → AtPlan (T.answers asked.now) files.now (world_at shelf source sink (D.state disk.old))
-        (world_at shelf source sink (D.state result.1.now)) result.0 }
+        → AtPlan (T.answers asked.now) files.now (run_world shelf source sink (D.state disk.old))
+        (run_world shelf source sink (D.state result.1.now)) result.0 }
 {
     let same: SameDisk<'d, N, D> = SameDisk {
         disk,
@@ -98,8 +98,8 @@ fn text_of_board<N: OfFiles, T: PlanText, D: Disk>(
     requires begun { Stays N.begun (D.state disk) }
     requires fits { T.fits asked.now files.now.airport }
     ensures does { (shelf : ShelfState) (source : SourceState) (sink : SinkState)
-        → AtPlan (T.answers asked.now) files.now (world_at shelf source sink (D.state disk))
-        (world_at shelf source sink (D.state result.1)) result.0 }
+        → AtPlan (T.answers asked.now) files.now (run_world shelf source sink (D.state disk))
+        (run_world shelf source sink (D.state result.1)) result.0 }
 {
     let board = match open_board::<N, D>(alloc, files, Access::Reads, disk) {
         Ok(board) => board,

@@ -1,4 +1,4 @@
-// What is printed if all was done. Writing it takes no memory.
+// What is printed: the text of what was done, or a line. Writing it takes no memory.
 ghost use Rattle.std.specs.Prelude.{◌≡◌};
 ghost use Rattle.apron_base.specs.Ends.{Puts};
 ghost use Rattle.apron_run.specs.Print.{already_text, help_text, listener_line, made_text, upgraded_text, usage_text, version_text};

@@ -11,7 +11,7 @@ ghost use Rattle.apron_run.specs.Run.{DoesAsked, KeptUnless, RunsAs};
 ghost use Rattle.apron_run.specs.Statuses.{exit_code};
 ghost use Rattle.apron_run.specs.Words.{chart as chart_word, faulty, subcommand_of, uses_disk, uses_shelf, uses_source};
 ghost use Rattle.apron_run.specs.WordsShown.{subcommand_at};
-ghost use Rattle.apron_run.specs.World.{world_at};
+ghost use Rattle.apron_run.specs.World.{run_world};
 
 use crate::chart::DayChart;
 use crate::desk::serve_desk;
@@ -79,16 +79,16 @@ pub fn run_with<F: Shelf, S: Source, W: Sink, D: Disk, R: Stated, T: NoteTest>(
     disk: &mut D,
 ) -> u8
     ensures headline { RunsAs (feed_texts R.tells watches.now) (subcommand_of words.now)
-        (world_at (F.state shelf.old) (S.state source.old) (W.state sink.old) (D.state disk.old))
-        (world_at (F.state shelf.new) (S.state source.new) (W.state sink.new) (D.state disk.new))
+        (run_world (F.state shelf.old) (S.state source.old) (W.state sink.old) (D.state disk.old))
+        (run_world (F.state shelf.new) (S.state source.new) (W.state sink.new) (D.state disk.new))
         result }
     ensures complete { IsRunComplete (subcommand_of words.now)
-        (world_at (F.state shelf.old) (S.state source.old) (W.state sink.old) (D.state disk.old))
-        (world_at (F.state shelf.new) (S.state source.new) (W.state sink.new) (D.state disk.new))
+        (run_world (F.state shelf.old) (S.state source.old) (W.state sink.old) (D.state disk.old))
+        (run_world (F.state shelf.new) (S.state source.new) (W.state sink.new) (D.state disk.new))
         result }
     ensures faults { FaultsHaveCause (subcommand_of words.now)
-        (world_at (F.state shelf.old) (S.state source.old) (W.state sink.old) (D.state disk.old))
-        (world_at (F.state shelf.new) (S.state source.new) (W.state sink.new) (D.state disk.new))
+        (run_world (F.state shelf.old) (S.state source.old) (W.state sink.old) (D.state disk.old))
+        (run_world (F.state shelf.new) (S.state source.new) (W.state sink.new) (D.state disk.new))
         result }
     ensures usage { subcommand_of words.now ≡ faulty → result ≡ exit_code Status.Usage }
     ensures usage_alone { result ≡ exit_code Status.Usage
@@ -113,16 +113,16 @@ pub fn run<F: Shelf, S: Source, W: Sink, D: Disk>(
     disk: &mut D,
 ) -> u8
     ensures headline { RunsAs (feed_texts shows []) (subcommand_of words.now)
-        (world_at (F.state shelf.old) (S.state source.old) (W.state sink.old) (D.state disk.old))
-        (world_at (F.state shelf.new) (S.state source.new) (W.state sink.new) (D.state disk.new))
+        (run_world (F.state shelf.old) (S.state source.old) (W.state sink.old) (D.state disk.old))
+        (run_world (F.state shelf.new) (S.state source.new) (W.state sink.new) (D.state disk.new))
         result }
     ensures complete { IsRunComplete (subcommand_of words.now)
-        (world_at (F.state shelf.old) (S.state source.old) (W.state sink.old) (D.state disk.old))
-        (world_at (F.state shelf.new) (S.state source.new) (W.state sink.new) (D.state disk.new))
+        (run_world (F.state shelf.old) (S.state source.old) (W.state sink.old) (D.state disk.old))
+        (run_world (F.state shelf.new) (S.state source.new) (W.state sink.new) (D.state disk.new))
         result }
     ensures faults { FaultsHaveCause (subcommand_of words.now)
-        (world_at (F.state shelf.old) (S.state source.old) (W.state sink.old) (D.state disk.old))
-        (world_at (F.state shelf.new) (S.state source.new) (W.state sink.new) (D.state disk.new))
+        (run_world (F.state shelf.old) (S.state source.old) (W.state sink.old) (D.state disk.old))
+        (run_world (F.state shelf.new) (S.state source.new) (W.state sink.new) (D.state disk.new))
         result }
     ensures usage { subcommand_of words.now ≡ faulty → result ≡ exit_code Status.Usage }
     ensures usage_alone { result ≡ exit_code Status.Usage
@@ -148,8 +148,8 @@ fn run_words<F: Shelf, S: Source, W: Sink, D: Disk, R: Stated, T: NoteTest>(
     disk: &mut D,
 ) -> End
     ensures does { DoesAsked (feed_texts R.tells watches.now) (subcommand_of words.now)
-        (world_at (F.state shelf.old) (S.state source.old) (W.state sink.old) (D.state disk.old))
-        (world_at (F.state shelf.new) (S.state source.new) (W.state sink.new) (D.state disk.new))
+        (run_world (F.state shelf.old) (S.state source.old) (W.state sink.old) (D.state disk.old))
+        (run_world (F.state shelf.new) (S.state source.new) (W.state sink.new) (D.state disk.new))
         result }
     ensures shelf_kept { uses_shelf (subcommand_of words.now) ≡ false → shelf.new ≡ shelf.old }
     ensures source_kept { uses_source (subcommand_of words.now) (exit_code (status_of result))
@@ -188,8 +188,8 @@ fn run_at<F: Shelf, S: Source, W: Sink, D: Disk, R: Stated, T: NoteTest>(
     ensures does { (before : ShelfState) (airport types : List ℕ)
         → FindsFiles before (F.state shelf.old) airport types (Ok files)
         → DoesAsked (feed_texts R.tells watches.now) (subcommand_at airport types asked.entry)
-        (world_at before (S.state source.old) (W.state sink.old) (D.state disk.old))
-        (world_at (F.state shelf.new) (S.state source.new) (W.state sink.new) (D.state disk.new))
+        (run_world before (S.state source.old) (W.state sink.old) (D.state disk.old))
+        (run_world (F.state shelf.new) (S.state source.new) (W.state sink.new) (D.state disk.new))
         result }
     ensures source_kept { (airport types : List ℕ)
         → uses_source (subcommand_at airport types asked.entry) (exit_code (status_of result)) ≡ false

@@ -3,7 +3,7 @@ ghost use Rattle.std.specs.Prelude.{◌≡◌};
 ghost use Rattle.apron_base.specs.Ends.{SinkState, SourceState};
 ghost use Rattle.apron_base.specs.Shelf.{ShelfState};
 ghost use Rattle.apron_run.specs.Upgrade.{AtUpgrade};
-ghost use Rattle.apron_run.specs.World.{world_at};
+ghost use Rattle.apron_run.specs.World.{run_world};
 
 use crate::End;
 use crate::converting::convert_entries;
@@ -18,8 +18,8 @@ use std::marker::{Brand, PhantomData};
 /// Makes the journal of these files on the disk one of format 2, if it is of format 1.
 pub(crate) fn upgrade_journal<D: Disk>(alloc: Global, files: &AirportFiles, disk: &mut D) -> End
     ensures does { (shelf : ShelfState) (source : SourceState) (sink : SinkState)
-        → AtUpgrade files.now (world_at shelf source sink (D.state disk.old))
-        (world_at shelf source sink (D.state disk.new)) result }
+        → AtUpgrade files.now (run_world shelf source sink (D.state disk.old))
+        (run_world shelf source sink (D.state disk.new)) result }
 {
     let (end, _disk) = upgrade_on::<Brand, D>(alloc, files, disk);
     end
@@ -34,8 +34,8 @@ fn upgrade_on<'d, N: Named, D: Disk>(
     requires named { disk.ghost_name ≡ N.name }
     ensures same { result.1.ghost_name ≡ disk.entry.ghost_name }
     ensures does { (shelf : ShelfState) (source : SourceState) (sink : SinkState)
-        → AtUpgrade files.now (world_at shelf source sink (D.state disk.old))
-        (world_at shelf source sink (D.state result.1.now)) result.0 }
+        → AtUpgrade files.now (run_world shelf source sink (D.state disk.old))
+        (run_world shelf source sink (D.state result.1.now)) result.0 }
 {
     let same: SameDisk<'d, N, D> = SameDisk {
         disk,
@@ -49,8 +49,8 @@ fn upgrade_on<'d, N: Named, D: Disk>(
 // The upgrade of the journal of these files on the disk.
 fn upgrade_disk<D: Disk>(alloc: Global, files: &AirportFiles, disk: D) -> (End, D)
     ensures does { (shelf : ShelfState) (source : SourceState) (sink : SinkState)
-        → AtUpgrade files.now (world_at shelf source sink (D.state disk))
-        (world_at shelf source sink (D.state result.1)) result.0 }
+        → AtUpgrade files.now (run_world shelf source sink (D.state disk))
+        (run_world shelf source sink (D.state result.1)) result.0 }
 {
     let old = match open_old(alloc, disk, &files.digests) {
         Ok(Found::Old(old)) => old,

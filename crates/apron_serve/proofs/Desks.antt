@@ -19,14 +19,14 @@ use Rattle.screen_server.specs.declared.shown.ShownEnd.{ShownEnd}
 use Rattle.screen_server.specs.declared.shown.Task.{Task}
 use Rattle.apron_check.specs.declared.files.AirportFiles.{AirportFiles}
 use Rattle.apron_run.specs.Journal.{KeepsHistory}
-use Rattle.apron_run.specs.Opened.{IsOpened}
-use Rattle.apron_run.specs.Asking.{opened_board}
+use Rattle.apron_run.specs.Opened.{IsOpened, opened_board}
 use Rattle.apron_run.specs.Survival.{Survives}
 use Rattle.apron_run.specs.World.{World}
 use Rattle.apron_run.specs.declared.end.End.TheVariants as ended
 use Rattle.apron_run.specs.declared.end.ServeEnd.{ServeEnd}
+use Rattle.apron_run.proofs.Disks.{disk_used}
 use Rattle.apron_run.proofs.Serving.{all_sound}
-use Rattle.apron_serve.specs.Board.{AtServe, Listening, Service, served_end}
+use Rattle.apron_serve.specs.Board.{AtServe, Service, served_end}
 use Rattle.apron_serve.specs.Noted.{IsNoteOf, MeetsNoted, has_missed}
 
 -- after a board was opened no entry is at risk
@@ -59,69 +59,67 @@ pub missed_some : (opened history : List Entry) (writers : ℕ) (note : Option H
 missed_some opened history writers None is missed = absurd cc
 missed_some opened history writers (Some note) is missed = is.3
 
--- desks and screens that were served at a hall of a board that was opened, with the disk that was
--- closed after them
-abbrev pub desks_serve : {In Out K R E : Type 0} (service : Service In Out) (tells : K → KeeperState) (task : Task) (from to : Listening In Out) (files : AirportFiles) (before : World) (closed : DiskState)
+-- desks and screens that were served at a hall of a board that was opened
+abbrev pub desks_serve : {In Out K R E : Type 0} (service : Service In Out) (tells : K → KeeperState) (task : Task) (files : AirportFiles) (before after : World In Out)
     (board : BoardHeld K) (hall : HallHeld K R) (met : Result ShownEnd E) (ends : ShownEnd) (served : ServeEnd) (note : Option HallNoteState)
+    → after.shelf ≡ before.shelf → after.source ≡ before.source → after.sink ≡ before.sink
     → IsOpened tells files before.disk board
     → met ≡ Ok ends
-    → IfOk met (λ ended. ServesBoard service.states (fed_sessions service.feeds) task.connections (record { listeners = from.listeners; board = machine_state tells board }) (record { listeners = to.listeners; board = machine_state tells hall.board.board }) ended.desks)
-    → IfOk met (λ ended. ShowsFrom service.states (record { airport = files.airport; history = board.history }) task from.screens (record { listeners = to.screens; history = hall.board.board.history; end = ended.screens }))
-    → length hall.writers ≡ length from.screens
+    → IfOk met (λ ended. ServesBoard service.states (fed_sessions service.feeds) task.connections (record { listeners = before.listeners; board = machine_state tells board }) (record { listeners = after.listeners; board = machine_state tells hall.board.board }) ended.desks)
+    → IfOk met (λ ended. ShowsFrom service.states (record { airport = files.airport; history = board.history }) task before.screens (record { listeners = after.screens; history = hall.board.board.history; end = ended.screens }))
+    → length hall.writers ≡ length before.screens
     → hall.begun ≡ board.next
     → note ≡ hall_note hall
     → served ≡ served_end (end_of (ends.desks ∷ ends.screens ∷ [])) (has_missed note)
-    → closed.faults ≡ (tells hall.board.board.keeper).faults
-    → KeepsHistory (record { airport = hall.board.board.airport; digests = files.digests }) hall.board.board.history hall.board.board.at_risk closed
-    → Survives files.digests hall.board.board.history hall.board.board.at_risk before.disk closed
-    → MeetsNoted service task from to files before (record before { disk = closed }) (ended.Attended served) note
-desks_serve {E = E} service tells task from to files before closed board hall met ends served note opened is serve show many begun note_is_hall end_is counted keeps survives =
+    → after.disk.faults ≡ (tells hall.board.board.keeper).faults
+    → KeepsHistory (record { airport = hall.board.board.airport; digests = files.digests }) hall.board.board.history hall.board.board.at_risk after.disk
+    → Survives files.digests hall.board.board.history hall.board.board.at_risk before.disk after.disk
+    → MeetsNoted service task files before after (ended.Attended served) note
+desks_serve {E = E} service tells task files before after board hall met ends served note shelf source sink opened is serve show many begun note_is_hall end_is counted keeps survives =
     let left = hall.board.board in
-    let serves : ServesBoard service.states (fed_sessions service.feeds) task.connections (record { listeners = from.listeners; board = machine_state tells board }) (record { listeners = to.listeners; board = machine_state tells left }) ends.desks =
+    let serves : ServesBoard service.states (fed_sessions service.feeds) task.connections (record { listeners = before.listeners; board = machine_state tells board }) (record { listeners = after.listeners; board = machine_state tells left }) ends.desks =
     subst (λ (r : Result ShownEnd E).
-    IfOk r (λ ended. ServesBoard service.states (fed_sessions service.feeds) task.connections (record { listeners = from.listeners; board = machine_state tells board }) (record { listeners = to.listeners; board = machine_state tells left }) ended.desks)) is serve in
+    IfOk r (λ ended. ServesBoard service.states (fed_sessions service.feeds) task.connections (record { listeners = before.listeners; board = machine_state tells board }) (record { listeners = after.listeners; board = machine_state tells left }) ended.desks)) is serve in
     let fresh : machine_state tells board ≡ opened_board files.airport board.history before.disk.faults =
     opened_begun tells files.airport before.disk.faults _ board opened.airport_is opened.next opened.faults opened.at_risk in
     let same : left.airport ≡ files.airport = serves.fixed ∙ opened.airport_is in
     let own : IsLegal left.airport left.history = serves.legal in
     let legal : IsLegal files.airport left.history = subst (λ (a : AirportParts). IsLegal a left.history) same own in
-    let noted : IsNoteOf board.history left.history (length from.screens) note =
-    subst (λ (n : Option HallNoteState). IsNoteOf board.history left.history (length from.screens) n) (sym note_is_hall)
-    (note_is board.history left.history (length from.screens) hall.writers _ many (begun ∙ opened.next) (legal_counted left.airport left.history own) refl) in
+    let noted : IsNoteOf board.history left.history (length before.screens) note =
+    subst (λ (n : Option HallNoteState). IsNoteOf board.history left.history (length before.screens) n) (sym note_is_hall)
+    (note_is board.history left.history (length before.screens) hall.writers _ many (begun ∙ opened.next) (legal_counted left.airport left.history own) refl) in
     record {
       noted = (noted, refl);
       meets = (
         board.history,
         opened.opens,
         record {
-          shelf = refl;
-          source = refl;
-          sink = refl;
-          uses = record {
-            board = machine_state tells left;
-            desks = ends.desks;
-            serves = subst (λ (m : MachineState Entry AirportParts).
-                ServesBoard service.states (fed_sessions service.feeds) task.connections (record { listeners = from.listeners; board = m }) (record { listeners = to.listeners; board = machine_state tells left }) ends.desks) fresh serves;
-            looks = ends.screens;
-            shows = subst (λ (r : Result ShownEnd E).
-                IfOk r (λ ended. ShowsFrom service.states (record { airport = files.airport; history = board.history }) task from.screens (record { listeners = to.screens; history = left.history; end = ended.screens }))) is show;
-            missed = has_missed note;
-            some = missed_some board.history left.history (length from.screens) note noted;
-            end_is = end_is;
-            faults = counted;
-            keeps = subst (λ (a : AirportParts).
-                KeepsHistory (record { airport = a; digests = files.digests }) left.history left.at_risk closed) same keeps;
-            survives = survives;
-            sound = all_sound files.airport left.history legal;
-          };
+          shelf = shelf;
+          source = source;
+          sink = sink;
+          board = machine_state tells left;
+          desks = ends.desks;
+          serves = subst (λ (m : MachineState Entry AirportParts).
+              ServesBoard service.states (fed_sessions service.feeds) task.connections (record { listeners = before.listeners; board = m }) (record { listeners = after.listeners; board = machine_state tells left }) ends.desks) fresh serves;
+          looks = ends.screens;
+          shows = subst (λ (r : Result ShownEnd E).
+              IfOk r (λ ended. ShowsFrom service.states (record { airport = files.airport; history = board.history }) task before.screens (record { listeners = after.screens; history = left.history; end = ended.screens }))) is show;
+          missed = has_missed note;
+          some = missed_some board.history left.history (length before.screens) note noted;
+          end_is = end_is;
+          faults = counted;
+          keeps = subst (λ (a : AirportParts).
+              KeepsHistory (record { airport = a; digests = files.digests }) left.history left.at_risk after.disk) same keeps;
+          survives = survives;
+          sound = all_sound files.airport left.history legal;
         },
       );
     }
 
 -- there is no memory to serve at a board that was opened, and the disk reads as before
-pub turns_want_memory : {In Out K : Type 0} (service : Service In Out) (tells : K → KeeperState) (task : Task) (from to : Listening In Out) (files : AirportFiles) (before : World) (closed : DiskState)
+pub turns_want_memory : {In Out K : Type 0} (service : Service In Out) (tells : K → KeeperState) (task : Task) (files : AirportFiles) (before : World In Out) (closed : DiskState)
     (board : BoardHeld K) → IsOpened tells files before.disk board
     → Stays before.disk closed → closed.faults ≡ (tells board.keeper).faults
-    → AtServe service task from to files before (record before { disk = closed }) ended.Memory
-turns_want_memory service tells task from to files before closed board opened stays counted =
-    (board.history, opened.opens, record { shelf = refl; source = refl; sink = refl; uses = record { stays = stays; faults = counted ∙ opened.faults } })
+    → AtServe service task files before (record before { disk = closed }) ended.Memory
+turns_want_memory service tells task files before closed board opened stays counted =
+    (board.history, opened.opens, disk_used before closed (record { stays = stays; faults = counted ∙ opened.faults }))

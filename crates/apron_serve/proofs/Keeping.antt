@@ -1,7 +1,6 @@
 -- What stays as it was, by how serving ended.
-use Rattle.std.proofs.Common.{◌≡◌, Bool, true, false, List, map, refl}
+use Rattle.std.proofs.Common.{◌≡◌, Bool, true, false, refl}
 use Rattle.std.specs.Prelude.{not}
-use Rattle.apron_base.specs.Listener.{ListenerState}
 use Rattle.apron_check.specs.declared.files.AirportFiles.{AirportFiles}
 use Rattle.screen_server.specs.declared.shown.Task.{Task}
 use Rattle.apron_run.specs.End.{status_of}
@@ -12,7 +11,7 @@ use Rattle.apron_run.specs.declared.end.End.{End}
 use Rattle.apron_run.specs.declared.end.End.TheVariants.{Attended, Memory as Wanting, Unusable as Unworkable}
 use Rattle.apron_run.specs.declared.end.ServeEnd.TheVariants as end
 use Rattle.apron_run.proofs.Kept.{unworkable_used}
-use Rattle.apron_serve.specs.Board.{AtServe, Listening, Service}
+use Rattle.apron_serve.specs.Board.{AtServe, Service}
 use Rattle.apron_serve.specs.Serve.{serve_ends_before_journal}
 
 -- what is kept unless something was, if something else was whenever that was
@@ -21,20 +20,13 @@ kept_also served true old new goes kept = tt
 kept_also true false old new goes kept = let no : false ≡ true = goes refl in absurd cc
 kept_also false false old new goes kept = kept
 
--- listeners that are kept are as they were
-pub listening_kept : {L In Out : Type 0} (state : L → ListenerState In Out) (served : Bool) (listeners listened screens shown : List L)
-    → KeptUnless served listeners listened → KeptUnless served screens shown
-    → KeptUnless {E = Listening In Out} served (record { listeners = map state listeners; screens = map state screens }) (record { listeners = map state listened; screens = map state shown })
-listening_kept state true listeners listened screens shown one other = tt
-listening_kept state false listeners listened screens shown one other = λ i. record { listeners = map state (one i); screens = map state (other i) }
-
 -- what is done at a journal ends with no number of an end before it
-pub comes : {In Out : Type 0} (service : Service In Out) (task : Task) (from to : Listening In Out) (files : AirportFiles) (before after : World) (end : End)
-    → AtServe service task from to files before after end → not (serve_ends_before_journal (exit_code (status_of end))) ≡ true
-comes service task from to files before after (Attended end.Done) at = refl
-comes service task from to files before after (Attended end.ListenerFault) at = refl
-comes service task from to files before after (Attended end.Missed) at = refl
-comes service task from to files before after Wanting at = refl
-comes service task from to files before after (Unworkable why) at =
+pub comes : {In Out : Type 0} (service : Service In Out) (task : Task) (files : AirportFiles) (before after : World In Out) (end : End)
+    → AtServe service task files before after end → not (serve_ends_before_journal (exit_code (status_of end))) ≡ true
+comes service task files before after (Attended end.Done) at = refl
+comes service task files before after (Attended end.ListenerFault) at = refl
+comes service task files before after (Attended end.Missed) at = refl
+comes service task files before after Wanting at = refl
+comes service task files before after (Unworkable why) at =
     unworkable_used (λ code. not (serve_ends_before_journal code)) refl refl refl files before.disk after.disk why (let not_opened = at.uses in not_opened.cause)
-comes service task from to files before after end at = absurd at.2
+comes service task files before after end at = absurd at.2

@@ -4,20 +4,19 @@ use Rattle.apron_base.specs.Counts.{Rose}
 use Rattle.apron_base.specs.Listener.{ListenerState}
 use Rattle.apron_check.specs.declared.files.AirportFiles.{AirportFiles}
 use Rattle.apron_run.specs.End.{EndsAs, EndsUntouched}
-use Rattle.apron_run.specs.Run.{KeptUnless}
 use Rattle.apron_run.specs.Statuses.{exit_code}
 use Rattle.apron_run.specs.TwoFiles.{WithFiles}
 use Rattle.apron_run.specs.World.{World}
 use Rattle.apron_run.specs.declared.end.End.{End}
 use Rattle.apron_run.specs.declared.end.End.TheVariants as ended
 use Rattle.apron_run.specs.declared.status.Status.TheVariants.{Done, Usage, FileFault, ShelfFault, ListenerFault, Memory}
-use Rattle.apron_serve.specs.Board.{AtServe, Listening, Service}
+use Rattle.apron_serve.specs.Board.{AtServe, Service}
 use Rattle.apron_serve.specs.Orders.{Order, day_shown}
 
 -- whether desks and screens were served
-abbrev pub was_served : End → Bool
-was_served (ended.Attended served) = true
-was_served end = false
+abbrev pub is_attended : End → Bool
+is_attended (ended.Attended served) = true
+is_attended end = false
 
 -- `serve` with this many screens may end with this number after desks were served
 abbrev pub has_served : ℕ → ℕ → Bool
@@ -44,27 +43,22 @@ module _ {In Out : Type 0} where
       ⊎ SomeFailed befores afters
   SomeFailed befores afters = ⊥
 
-module _ {In Out : Type 0} (service : Service In Out) (from to : Listening In Out) where
+module _ {In Out : Type 0} (service : Service In Out) where
   -- what is done at these files, by the day that screens are to show, if their plan has it
-  abbrev pub ServesDay : ℕ → AirportFiles → Option ℕ → World → World → End → Type 0
+  abbrev pub ServesDay : ℕ → AirportFiles → Option ℕ → World In Out → World In Out → End → Type 0
   ServesDay connections files (Some day) =
-      AtServe service (record { connections = connections; day = day }) from to files
+      AtServe service (record { connections = connections; day = day }) files
   ServesDay connections files None = EndsUntouched ended.Unasked
 
   -- what is done for an order, if there is one
-  abbrev pub ServesOrder : Option Order → World → World → End → Type 0
+  abbrev pub ServesOrder : Option Order → World In Out → World In Out → End → Type 0
   ServesOrder (Some order) =
       WithFiles (λ files. ServesDay order.connections files (day_shown files.airport order.day))
       order.airport order.types
   ServesOrder None = EndsUntouched ended.Unasked
 
-  -- and the listeners are as they were, unless they were served
-  abbrev pub DoesServe : Option Order → World → World → End → Type 0
-  DoesServe asked before after end = ServesOrder asked before after end
-      × KeptUnless (was_served end) from to
-
   -- What `serve` does for an order, what a crash meanwhile or after it may leave, the line at its
   -- end, and the status of its number. If there is no order the line `usage` is written, and
   -- nothing else is touched.
-  abbrev pub ServesAs : Option Order → World → World → ℕ → Type 0
-  ServesAs asked = EndsAs (DoesServe asked)
+  abbrev pub ServesAs : Option Order → World In Out → World In Out → ℕ → Type 0
+  ServesAs asked = EndsAs (ServesOrder asked)

@@ -1,15 +1,15 @@
 // Desks and screens at the board of an airport over its journal on a disk.
-ghost use Rattle.std.specs.Prelude.{◌≡◌, ◌<◌, ◌≤◌, [], ◌∷◌, length, map};
+ghost use Rattle.std.specs.Prelude.{◌≡◌, ◌<◌, ◌≤◌, [], ◌∷◌, length};
 ghost use Rattle.apron_base.specs.Ends.{SinkState, SourceState};
 ghost use Rattle.apron_base.specs.Shelf.{ShelfState};
 ghost use Rattle.desk_workers.specs.Crew.{end_of};
 ghost use Rattle.desk_workers.specs.Watched.{feed_texts};
 ghost use Rattle.apron_run.specs.Run.{KeptUnless};
-ghost use Rattle.apron_run.specs.World.{Unwritten, world_at};
-ghost use Rattle.apron_serve.specs.Board.{served_end};
+ghost use Rattle.apron_run.specs.World.{Unwritten};
+ghost use Rattle.apron_serve.specs.Board.{serve_world, served_end};
 ghost use Rattle.apron_serve.specs.Noted.{MeetsNoted, has_missed};
 ghost use Rattle.apron_serve.specs.Orders.{most_listeners};
-ghost use Rattle.apron_serve.specs.Serve.{was_served};
+ghost use Rattle.apron_serve.specs.Serve.{is_attended};
 
 use apron_base::Memory;
 use apron_check::AirportFiles;
@@ -52,12 +52,11 @@ pub(crate) fn serve_desks<
     requires day { 0 < length screens.old → (1 ≤ task.day) × (task.day ≤ files.now.airport.days) }
     ensures meets { (shelf : ShelfState) (source : SourceState) (sink : SinkState) → MeetsNoted
         (record { states = L.states; feeds = feed_texts R.tells watches.now }) task
-        (record { listeners = map L.state listeners.old; screens = map L.state screens.old })
-        (record { listeners = map L.state listeners.new; screens = map L.state screens.new })
-        files.now (world_at shelf source sink N.begun)
-        (world_at shelf source sink (D.state result.1)) result.0 result.2 }
-    ensures unserved { KeptUnless (was_served result.0) listeners.old listeners.new }
-    ensures unshown { KeptUnless (was_served result.0) screens.old screens.new }
+        files.now (serve_world L.state shelf source listeners.old screens.old sink N.begun)
+        (serve_world L.state shelf source listeners.new screens.new sink (D.state result.1))
+        result.0 result.2 }
+    ensures unserved { KeptUnless (is_attended result.0) listeners.old listeners.new }
+    ensures unshown { KeptUnless (is_attended result.0) screens.old screens.new }
 {
     let board = match open_watched::<N, D, R, T>(alloc, files, watches, disk) {
         Ok(board) => board,

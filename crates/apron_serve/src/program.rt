@@ -7,12 +7,11 @@ ghost use Rattle.desk_workers.specs.Watched.{feed_texts, no_feeds};
 ghost use Rattle.apron_run.specs.End.{status_of};
 ghost use Rattle.apron_run.specs.Run.{KeptUnless};
 ghost use Rattle.apron_run.specs.Statuses.{exit_code};
-ghost use Rattle.apron_run.specs.World.{world_at};
-ghost use Rattle.apron_serve.specs.Board.{AtServe};
+ghost use Rattle.apron_serve.specs.Board.{AtServe, serve_world};
 ghost use Rattle.apron_serve.specs.Complete.{IsServeComplete};
 ghost use Rattle.apron_serve.specs.Orders.{Order as Ordered, may_have, most_listeners, order_of};
 ghost use Rattle.apron_serve.specs.OrdersShown.{order_shown};
-ghost use Rattle.apron_serve.specs.Serve.{DoesServe, HaveFinished, ServesAs, SomeFailed, has_served, serve_ends_before_journal, was_served};
+ghost use Rattle.apron_serve.specs.Serve.{HaveFinished, ServesAs, ServesOrder, SomeFailed, has_served, serve_ends_before_journal, is_attended};
 
 use crate::board::serve_desks;
 use crate::words::{Order, order_of};
@@ -59,11 +58,11 @@ pub fn serve<F: Shelf, L: Workplace + Send, W: Sink, D: Disk + Send, Rt: Wait + 
 ) -> (u8, D)
     ensures headline { (source : SourceState) → ServesAs
         (record { states = L.states; feeds = no_feeds })
-        (record { listeners = map L.state listeners.old; screens = [] })
-        (record { listeners = map L.state listeners.new; screens = [] })
         (order_of words.now (length listeners.old) 0)
-        (world_at (F.state shelf.old) source (W.state sink.old) (D.state disk))
-        (world_at (F.state shelf.new) source (W.state sink.new) (D.state result.1)) result.0 }
+        (serve_world L.state (F.state shelf.old) source listeners.old [] (W.state sink.old)
+        (D.state disk))
+        (serve_world L.state (F.state shelf.new) source listeners.new [] (W.state sink.new)
+        (D.state result.1)) result.0 }
     ensures done { (order : Ordered)
         → order_of words.now (length listeners.old) 0 ≡ Some order
         → (result.0 ≡ exit_code Status.Done
@@ -74,11 +73,11 @@ pub fn serve<F: Shelf, L: Workplace + Send, W: Sink, D: Disk + Send, Rt: Wait + 
     ensures usage { result.0 ≡ exit_code Status.Usage
         ↔ order_of words.now (length listeners.old) 0 ≡ None }
     ensures complete { (source : SourceState) → IsServeComplete
-        (record { listeners = map L.state listeners.old; screens = [] })
-        (record { listeners = map L.state listeners.new; screens = [] })
         (order_of words.now (length listeners.old) 0)
-        (world_at (F.state shelf.old) source (W.state sink.old) (D.state disk))
-        (world_at (F.state shelf.new) source (W.state sink.new) (D.state result.1)) result.0 }
+        (serve_world L.state (F.state shelf.old) source listeners.old [] (W.state sink.old)
+        (D.state disk))
+        (serve_world L.state (F.state shelf.new) source listeners.new [] (W.state sink.new)
+        (D.state result.1)) result.0 }
     ensures shelf_kept { KeptUnless (is_some (order_of words.now (length listeners.old) 0))
         shelf.old shelf.new }
     ensures listeners_kept { KeptUnless (has_served 0 result.0) listeners.old listeners.new }
@@ -109,11 +108,11 @@ pub fn serve_with<
 ) -> (u8, D)
     ensures headline { (source : SourceState) → ServesAs
         (record { states = L.states; feeds = feed_texts R.tells watches.now })
-        (record { listeners = map L.state listeners.old; screens = [] })
-        (record { listeners = map L.state listeners.new; screens = [] })
         (order_of words.now (length listeners.old) 0)
-        (world_at (F.state shelf.old) source (W.state sink.old) (D.state disk))
-        (world_at (F.state shelf.new) source (W.state sink.new) (D.state result.1)) result.0 }
+        (serve_world L.state (F.state shelf.old) source listeners.old [] (W.state sink.old)
+        (D.state disk))
+        (serve_world L.state (F.state shelf.new) source listeners.new [] (W.state sink.new)
+        (D.state result.1)) result.0 }
     ensures done { (order : Ordered)
         → order_of words.now (length listeners.old) 0 ≡ Some order
         → (result.0 ≡ exit_code Status.Done
@@ -124,11 +123,11 @@ pub fn serve_with<
     ensures usage { result.0 ≡ exit_code Status.Usage
         ↔ order_of words.now (length listeners.old) 0 ≡ None }
     ensures complete { (source : SourceState) → IsServeComplete
-        (record { listeners = map L.state listeners.old; screens = [] })
-        (record { listeners = map L.state listeners.new; screens = [] })
         (order_of words.now (length listeners.old) 0)
-        (world_at (F.state shelf.old) source (W.state sink.old) (D.state disk))
-        (world_at (F.state shelf.new) source (W.state sink.new) (D.state result.1)) result.0 }
+        (serve_world L.state (F.state shelf.old) source listeners.old [] (W.state sink.old)
+        (D.state disk))
+        (serve_world L.state (F.state shelf.new) source listeners.new [] (W.state sink.new)
+        (D.state result.1)) result.0 }
     ensures shelf_kept { KeptUnless (is_some (order_of words.now (length listeners.old) 0))
         shelf.old shelf.new }
     ensures listeners_kept { KeptUnless (has_served 0 result.0) listeners.old listeners.new }
@@ -173,11 +172,11 @@ pub fn serve_all<
 ) -> (u8, D)
     ensures headline { (source : SourceState) → ServesAs
         (record { states = L.states; feeds = feed_texts R.tells watches.now })
-        (record { listeners = map L.state listeners.old; screens = map L.state screens.old })
-        (record { listeners = map L.state listeners.new; screens = map L.state screens.new })
         (order_of words.now (length listeners.old) (length screens.old))
-        (world_at (F.state shelf.old) source (W.state sink.old) (D.state disk))
-        (world_at (F.state shelf.new) source (W.state sink.new) (D.state result.1)) result.0 }
+        (serve_world L.state (F.state shelf.old) source listeners.old screens.old
+        (W.state sink.old) (D.state disk))
+        (serve_world L.state (F.state shelf.new) source listeners.new screens.new
+        (W.state sink.new) (D.state result.1)) result.0 }
     ensures done { (order : Ordered)
         → order_of words.now (length listeners.old) (length screens.old) ≡ Some order
         → result.0 ≡ exit_code Status.Done
@@ -198,11 +197,11 @@ pub fn serve_all<
         → IfSome (order_of words.now (length listeners.old) (length screens.old))
         (λ order. IsSome order.day) }
     ensures complete { (source : SourceState) → IsServeComplete
-        (record { listeners = map L.state listeners.old; screens = map L.state screens.old })
-        (record { listeners = map L.state listeners.new; screens = map L.state screens.new })
         (order_of words.now (length listeners.old) (length screens.old))
-        (world_at (F.state shelf.old) source (W.state sink.old) (D.state disk))
-        (world_at (F.state shelf.new) source (W.state sink.new) (D.state result.1)) result.0 }
+        (serve_world L.state (F.state shelf.old) source listeners.old screens.old
+        (W.state sink.old) (D.state disk))
+        (serve_world L.state (F.state shelf.new) source listeners.new screens.new
+        (W.state sink.new) (D.state result.1)) result.0 }
     ensures shelf_kept { KeptUnless
         (is_some (order_of words.now (length listeners.old) (length screens.old))) shelf.old
         shelf.new }
@@ -239,17 +238,17 @@ fn serve_order<
     requires few { IfSome order (λ _. length listeners.old ≤ most_listeners) }
     requires screens { IfSome order
         (λ order. may_have (length screens.old) (option_copied order.day) ≡ true) }
-    ensures does { (source : SourceState) (sink : SinkState) → DoesServe
+    ensures does { (source : SourceState) (sink : SinkState) → ServesOrder
         (record { states = L.states; feeds = feed_texts R.tells watches.now })
-        (record { listeners = map L.state listeners.old; screens = map L.state screens.old })
-        (record { listeners = map L.state listeners.new; screens = map L.state screens.new })
         (option_map order_shown order.entry)
-        (world_at (F.state shelf.old) source sink (D.state disk))
-        (world_at (F.state shelf.new) source sink (D.state result.1)) result.0 }
+        (serve_world L.state (F.state shelf.old) source listeners.old screens.old sink
+        (D.state disk))
+        (serve_world L.state (F.state shelf.new) source listeners.new screens.new sink
+        (D.state result.1)) result.0 }
     ensures shelf_kept { KeptUnless (is_some (option_map order_shown order.entry))
         shelf.old shelf.new }
-    ensures listeners_kept { KeptUnless (was_served result.0) listeners.old listeners.new }
-    ensures screens_kept { KeptUnless (was_served result.0) screens.old screens.new }
+    ensures listeners_kept { KeptUnless (is_attended result.0) listeners.old listeners.new }
+    ensures screens_kept { KeptUnless (is_attended result.0) screens.old screens.new }
     ensures disk_kept { KeptUnless
         (not (serve_ends_before_journal (exit_code (status_of result.0)))) disk result.1 }
 {
@@ -294,12 +293,12 @@ fn serve_journal<
     requires day { 0 < length screens.old → (1 ≤ task.day) × (task.day ≤ files.now.airport.days) }
     ensures serves { (shelf : ShelfState) (source : SourceState) (sink : SinkState) → AtServe
         (record { states = L.states; feeds = feed_texts R.tells watches.now }) task
-        (record { listeners = map L.state listeners.old; screens = map L.state screens.old })
-        (record { listeners = map L.state listeners.new; screens = map L.state screens.new })
-        files.now (world_at shelf source sink (D.state disk))
-        (world_at shelf source sink (D.state result.1)) result.0 }
-    ensures listeners_kept { KeptUnless (was_served result.0) listeners.old listeners.new }
-    ensures screens_kept { KeptUnless (was_served result.0) screens.old screens.new }
+        files.now
+        (serve_world L.state shelf source listeners.old screens.old sink (D.state disk))
+        (serve_world L.state shelf source listeners.new screens.new sink (D.state result.1))
+        result.0 }
+    ensures listeners_kept { KeptUnless (is_attended result.0) listeners.old listeners.new }
+    ensures screens_kept { KeptUnless (is_attended result.0) screens.old screens.new }
 {
     let (end, disk, _note) = serve_desks::<Brand, L, D, R, T, Rt>(
         rt, alloc, files, task, watches, listeners, screens, disk,

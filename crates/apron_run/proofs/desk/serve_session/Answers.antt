@@ -2,14 +2,15 @@ use Rattle.std.proofs.Common.{◌≡◌, ◌∙◌, ℕ, List, ap, ap₂, refl, 
 use Rattle.apron_run.specs.Journal.{KeepsHistory}
 use Rattle.apron_run.specs.Opened.{journal_tells}
 use Rattle.apron_run.specs.Survival.{Survives}
-use Rattle.apron_run.specs.World.{World, world_at}
+use Rattle.apron_run.specs.World.{RunWorld, run_world}
+use Rattle.apron_run.proofs.Disks.{disk_used}
 use Rattle.apron_run.proofs.Serving.{desk_serves, opened_from, unopened_from}
 use Rattle.apron_run.proofs.desk.serve_session.Goals as goal
 
 pub returns-clause-does : goal.returns-clause-does
 returns-clause-does g c = λ shelf.
-    let before : World = world_at shelf (g.S.Source.state c.args.source.now) (g.W.Sink.state c.args.sink.now) g.N.OfFiles.begun in
-    let after : World = world_at shelf (g.S.Source.state c.session_fed-outcome.new.source) (g.W.Sink.state c.session_fed-outcome.new.sink) (g.D.Disk.state c.close_board.result) in
+    let before : RunWorld = run_world shelf (g.S.Source.state c.args.source.now) (g.W.Sink.state c.args.sink.now) g.N.OfFiles.begun in
+    let after : RunWorld = run_world shelf (g.S.Source.state c.session_fed-outcome.new.source) (g.W.Sink.state c.session_fed-outcome.new.sink) (g.D.Disk.state c.close_board.result) in
     let done = c.session_fed-outcome.new.port in
     let opened = c.in-Ok.watched in
     let made : opened ≡ record { board = opened.board; watches = c.args.watches.now; next = opened.board.next } =
@@ -34,9 +35,7 @@ returns-clause-does g c = λ shelf.
     )
 
 pub returns-in-Err-clause-does : goal.returns-in-Err-clause-does
-returns-in-Err-clause-does g c = λ shelf. record {
-  shelf = refl;
-  source = refl;
-  sink = refl;
-  uses = unopened_from c.args.files.now g.N.OfFiles.begun (g.D.Disk.state c.args.disk) (g.D.Disk.state c.in-Err.disk) c.requires.begun c.in-Err.why c.in-Err.ensures.refused;
-}
+returns-in-Err-clause-does g c = λ shelf.
+    let left = g.D.Disk.state c.in-Err.disk in
+    disk_used (run_world shelf (g.S.Source.state c.args.source.now) (g.W.Sink.state c.args.sink.now) g.N.OfFiles.begun) left
+    (unopened_from c.args.files.now g.N.OfFiles.begun (g.D.Disk.state c.args.disk) left c.requires.begun c.in-Err.why c.in-Err.ensures.refused)

@@ -3,7 +3,8 @@ use Rattle.apron_run.specs.Import.{ImportsSeason}
 use Rattle.apron_run.specs.Journal.{KeepsHistory}
 use Rattle.apron_run.specs.Opened.{journal_tells}
 use Rattle.apron_run.specs.Survival.{Survives}
-use Rattle.apron_run.specs.World.{World, world_at}
+use Rattle.apron_run.specs.World.{RunWorld, run_world}
+use Rattle.apron_run.proofs.Disks.{disk_used}
 use Rattle.apron_run.proofs.Importing.{season_imported}
 use Rattle.apron_run.proofs.Serving.{opened_from, unopened_from}
 use Rattle.apron_run.proofs.import.import_into.Goals as goal
@@ -11,8 +12,8 @@ use Rattle.apron_run.proofs.import.import_into.Goals as goal
 pub returns : goal.returns
 returns g c = record {
   does = λ source sink.
-      let before : World = world_at (g.F.Shelf.state c.args.shelf.now) source sink g.N.OfFiles.begun in
-      let after : World = world_at (g.F.Shelf.state c.add_season-imported.new.shelf) source sink (g.D.Disk.state c.close_board.result) in
+      let before : RunWorld = run_world (g.F.Shelf.state c.args.shelf.now) source sink g.N.OfFiles.begun in
+      let after : RunWorld = run_world (g.F.Shelf.state c.add_season-imported.new.shelf) source sink (g.D.Disk.state c.close_board.result) in
       let left = c.add_season-imported.new.board in
       let from = opened_from (journal_tells g.D.Disk.state) c.args.files.now g.N.OfFiles.begun (g.D.Disk.state c.args.disk) c.in-Ok.board c.requires.begun c.in-Ok.ensures.opened in
       let imports : ImportsSeason c.text.result.now c.args.files.now c.in-Ok.board.history before after c.add_season-imported.result =
@@ -36,10 +37,8 @@ returns g c = record {
 
 pub returns-in-Err : goal.returns-in-Err
 returns-in-Err g c = record {
-  does = λ source sink. record {
-    shelf = refl;
-    source = refl;
-    sink = refl;
-    uses = unopened_from c.args.files.now g.N.OfFiles.begun (g.D.Disk.state c.args.disk) (g.D.Disk.state c.in-Err.disk) c.requires.begun c.in-Err.why c.in-Err.ensures.refused;
-  };
+  does = λ source sink.
+      let left = g.D.Disk.state c.in-Err.disk in
+      disk_used (run_world (g.F.Shelf.state c.args.shelf.now) source sink g.N.OfFiles.begun) left
+      (unopened_from c.args.files.now g.N.OfFiles.begun (g.D.Disk.state c.args.disk) left c.requires.begun c.in-Err.why c.in-Err.ensures.refused);
 }

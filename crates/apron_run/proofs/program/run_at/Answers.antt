@@ -4,7 +4,7 @@ use Rattle.apron_run.specs.Chart.{AtDay, IsChart}
 use Rattle.apron_run.specs.Export.{IsSeason}
 use Rattle.apron_run.specs.Propose.{IsProposed}
 use Rattle.apron_run.specs.Words.{chart, export, number_within, propose, uses_disk}
-use Rattle.apron_run.specs.World.{World, world_at}
+use Rattle.apron_run.specs.World.{RunWorld, run_world}
 use Rattle.apron_run.specs.declared.end.End.TheVariants.{Unasked}
 use Rattle.apron_run.proofs.Kept.{desk_source, desk_used, init_used, not_both, plan_used, season_used, untouched_same, upgrade_used}
 use Rattle.apron_run.proofs.program.run_at.Goals as goal
@@ -45,8 +45,8 @@ returns-in-Some-clause-does g c =
       found = Ok c.args.files;
       shelf = _;
       finds = finds;
-      at = subst (λ (day : Option ℕ). AtDay c.args.files day (world_at shelf source sink (g.D.Disk.state c.args.disk.now))
-          (world_at shelf source sink (g.D.Disk.state c.text_of_journal.new.disk)) c.text_of_journal.result) is (c.text_of_journal.ensures.does shelf source sink);
+      at = subst (λ (day : Option ℕ). AtDay c.args.files day (run_world shelf source sink (g.D.Disk.state c.args.disk.now))
+          (run_world shelf source sink (g.D.Disk.state c.text_of_journal.new.disk)) c.text_of_journal.result) is (c.text_of_journal.ensures.does shelf source sink);
     })
 
 pub returns-in-Some-clause-disk_kept : goal.returns-in-Some-clause-disk_kept
@@ -56,8 +56,8 @@ returns-in-Some-clause-disk_kept g c = rw c.in-Chart.is (λ airport types.
 
 pub returns-in-Chart-clause-does : goal.returns-in-Chart-clause-does
 returns-in-Chart-clause-does g c =
-    let world : World =
-    world_at (g.F.Shelf.state c.args.shelf.now) (g.S.Source.state c.args.source.now) (g.W.Sink.state c.args.sink.now) (g.D.Disk.state c.args.disk.now) in
+    let world : RunWorld =
+    run_world (g.F.Shelf.state c.args.shelf.now) (g.S.Source.state c.args.source.now) (g.W.Sink.state c.args.sink.now) (g.D.Disk.state c.args.disk.now) in
     let is : None ≡ number_within c.in-Chart.day.now 1 c.args.files.airport.days =
     c.in-None.ensures.is ∙ ap₂ (λ text days. number_within text 1 days) c.as_bytes.ensures.value (ap (λ (parts : AirportParts). parts.days) c.parts.ensures.value) in
     rw c.in-Chart.is (λ before airport types finds. record {

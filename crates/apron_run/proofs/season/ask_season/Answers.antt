@@ -2,7 +2,8 @@ use Rattle.std.proofs.Common.{◌≡◌, ◌∙◌, ◌<◌, ◌≤◌, ◌+◌,
 use Rattle.std.proofs.lemmas.List.{take_more}
 use Rattle.apron_rules.specs.declared.parts.AirportParts.{AirportParts}
 use Rattle.visit_book.specs.declared.visits.NewVisit.{NewVisit}
-use Rattle.apron_run.specs.Asking.{AsksOnce, MeetsAll, Reached, StopsImport}
+use Rattle.apron_run.specs.Asking.{AsksOnce, MeetsAll, StopsImport}
+use Rattle.apron_run.specs.Opened.{Reached}
 use Rattle.apron_run.proofs.Asking.{among_season, meets_push, one_counts}
 use Rattle.apron_run.proofs.season.ask_season.Goals as goal
 use Rattle.history_core.specs.Board.{machine_state}

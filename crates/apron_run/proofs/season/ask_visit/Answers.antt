@@ -6,7 +6,8 @@ use Rattle.history_core.specs.Answer.{ActsAs}
 use Rattle.history_core.specs.AtRisk.{LeavesAtRisk}
 use Rattle.history_core.specs.History.{replay}
 use Rattle.history_core.specs.Board.{machine_state}
-use Rattle.apron_run.specs.Asking.{IsMissing, Reached}
+use Rattle.apron_run.specs.Asking.{IsMissing}
+use Rattle.apron_run.specs.Opened.{Reached}
 use Rattle.apron_run.proofs.Asking.{asking, standing_at, stops_missing}
 use Rattle.apron_run.proofs.season.ask_visit.Goals as goal
 

@@ -7,6 +7,8 @@ use Rattle.journal_disk.specs.declared.upgrade.Found.TheVariants.{Old}
 use Rattle.journal_disk.specs.declared.fault.JournalFault.{JournalFault}
 use Rattle.journal_disk.specs.declared.fault.JournalFault.TheVariants.{DiskFault}
 use Rattle.apron_run.specs.Converted.{HasConverted}
+use Rattle.apron_run.specs.World.{run_world}
+use Rattle.apron_run.proofs.Disks.{disk_used}
 use Rattle.apron_run.proofs.Upgraded.{IsFound, not_opened, stopped, upgraded}
 use Rattle.apron_run.proofs.upgrade.upgrade_disk.Goals as goal
 
@@ -15,12 +17,8 @@ returns-in-Err g c =
     let before = g.D.Disk.state c.args.disk in
     let after = g.D.Disk.state c.in-Err.disk in
     record {
-      does = λ shelf source sink. record {
-        shelf = refl;
-        source = refl;
-        sink = refl;
-        uses = not_opened c.args.files.now before after c.in-Err.fault c.in-Err.ensures.refused c.in-Err.ensures.stays;
-      };
+      does = λ shelf source sink. disk_used (run_world shelf source sink before) after
+          (not_opened c.args.files.now before after c.in-Err.fault c.in-Err.ensures.refused c.in-Err.ensures.stays);
     }
 
 pub returns-in-Ok-switched : goal.returns-in-Ok-switched
@@ -41,17 +39,14 @@ returns-in-Ok-switched g c =
     let counts : Counts false opened.faults after.faults =
     subst (λ (r : Result (Unit {0}) JournalFault). Counts (is_err r) opened.faults after.faults) c.in-Ok-switched.is switch.counts in
     record {
-      does = λ shelf source sink. record {
-        shelf = refl;
-        source = refl;
-        sink = refl;
-        uses = inl (
-          c.len.result,
-          refl,
-          upgraded files (g.D.Disk.state c.args.disk) opened after held.size held.entries new switch.size was stays switch.continues switch.crash done c.len.result converted
-              (g.met.D.Disk.reads c.switch-switched.result.1) (counts ∙ still) (c.len.ensures.count ∙ ap (λ (es : List (List ℕ)). length es) (sym c.as_slice.ensures.items)),
-        );
-      };
+      does = λ shelf source sink. disk_used (run_world shelf source sink (g.D.Disk.state c.args.disk)) after (
+          inl (
+            c.len.result,
+            refl,
+            upgraded files (g.D.Disk.state c.args.disk) opened after held.size held.entries new switch.size was stays switch.continues switch.crash done c.len.result converted
+                (g.met.D.Disk.reads c.switch-switched.result.1) (counts ∙ still) (c.len.ensures.count ∙ ap (λ (es : List (List ℕ)). length es) (sym c.as_slice.ensures.items)),
+          )
+          );
     }
 
 pub returns : goal.returns
@@ -72,11 +67,7 @@ returns g c =
     let counts : Counts true opened.faults after.faults =
     subst (λ (r : Result (Unit {0}) JournalFault). Counts (is_err r) opened.faults after.faults) c.in-Err-switched.is switch.counts in
     record {
-      does = λ shelf source sink. record {
-        shelf = refl;
-        source = refl;
-        sink = refl;
-        uses = stopped files (g.D.Disk.state c.args.disk) opened after held.size held.entries new switch.size was stays switch.continues switch.crash c.in-Err-switched.fault is
-            converted still counts;
-      };
+      does = λ shelf source sink. disk_used (run_world shelf source sink (g.D.Disk.state c.args.disk)) after
+          (stopped files (g.D.Disk.state c.args.disk) opened after held.size held.entries new switch.size was stays switch.continues switch.crash c.in-Err-switched.fault is
+          converted still counts);
     }

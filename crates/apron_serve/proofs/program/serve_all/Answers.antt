@@ -5,11 +5,11 @@ use Rattle.std.specs.Option.{option_map}
 use Rattle.apron_base.specs.Ends.{SourceState}
 use Rattle.desk_workers.specs.Watched.{feed_texts}
 use Rattle.apron_run.specs.Run.{KeptUnless}
-use Rattle.apron_run.specs.World.{World, world_at}
-use Rattle.apron_serve.specs.Board.{Listening, Service}
+use Rattle.apron_run.specs.World.{World}
+use Rattle.apron_serve.specs.Board.{Service, serve_world}
 use Rattle.apron_serve.specs.Orders.{Order, most_listeners, order_of}
 use Rattle.apron_serve.specs.OrdersShown.{order_shown}
-use Rattle.apron_serve.specs.Serve.{DoesServe, ServesAs, has_served, serve_ends_before_journal, was_served}
+use Rattle.apron_serve.specs.Serve.{ServesAs, ServesOrder, has_served, serve_ends_before_journal, is_attended}
 use Rattle.apron_serve.specs.declared.words.Order.{Order as Read}
 use Rattle.apron_serve.proofs.Completing.{complete}
 use Rattle.apron_serve.proofs.Endings.{AllFinished, IsDone, carried, no_source}
@@ -31,35 +31,34 @@ returns g c =
     let done = c.serve_order-end in
     let end = done.result.0 in
     let code : ℕ = c.code.result in
-    let from : Listening _ _ = record { listeners = map state c.args.listeners.now; screens = map state c.args.screens.now } in
-    let to : Listening _ _ = record { listeners = map state done.new.listeners; screens = map state done.new.screens } in
     let sink = g.W.Sink.state c.args.sink.now in
-    let before : SourceState → World = λ source. world_at (g.F.Shelf.state c.args.shelf.now) source sink (g.D.Disk.state c.args.disk) in
-    let after : SourceState → World = λ source. world_at (g.F.Shelf.state done.new.shelf) source (g.W.Sink.state c.tell_end.new.sink) (g.D.Disk.state done.result.1) in
-    let serves : (source : SourceState) → ServesAs service from to asked (before source) (after source) code = λ source. record {
+    let before : SourceState → World _ _ = λ source. serve_world state (g.F.Shelf.state c.args.shelf.now) source c.args.listeners.now c.args.screens.now sink (g.D.Disk.state c.args.disk) in
+    let after : SourceState → World _ _ = λ source.
+    serve_world state (g.F.Shelf.state done.new.shelf) source done.new.listeners done.new.screens (g.W.Sink.state c.tell_end.new.sink) (g.D.Disk.state done.result.1) in
+    let serves : (source : SourceState) → ServesAs service asked (before source) (after source) code = λ source. record {
       status = c.tell_end.result;
       code_is = c.code.ensures.value;
       written = sink;
       end = end;
-      does = subst (λ (a : Option Order). DoesServe service from to a (before source) (record (after source) { sink = sink }) end) c.order_of-order.ensures.order (done.ensures.does source sink);
+      does = subst (λ (a : Option Order). ServesOrder service a (before source) (record (after source) { sink = sink }) end) c.order_of-order.ensures.order (done.ensures.does source sink);
       tells = c.tell_end.ensures.tells;
     } in
-    let (is, all) = carried service from to asked (before no_source) (after no_source) code
-    (valid c.order_of-order.result asked _ (length from.listeners) c.order_of-order.ensures.order c.order_of-order.ensures.few c.order_of-order.ensures.some (length-map c.args.listeners.now state))
+    let (is, all) = carried service (before no_source) (after no_source) asked code
+    (valid c.order_of-order.result asked _ (length (map state c.args.listeners.now)) c.order_of-order.ensures.order c.order_of-order.ensures.few c.order_of-order.ensures.some (length-map c.args.listeners.now state))
     (serves no_source) in
-    let may : was_served end ≡ true → has_served (length c.args.screens.now) code ≡ true =
+    let may : is_attended end ≡ true → has_served (length c.args.screens.now) code ≡ true =
     λ so. subst (λ (n : ℕ). has_served n code ≡ true) (length-map c.args.screens.now state) (all.served so) in
     record {
       headline = serves;
-      done = λ order same zero. subst (λ (a : Option Order). IfSome a (λ order. AllFinished service from to order.connections)) same (all.done zero);
+      done = λ order same zero. subst (λ (a : Option Order). IfSome a (λ order. AllFinished (before no_source) (after no_source) order.connections)) same (all.done zero);
       finished = λ order same listeners screens. subst (λ (n : ℕ). IsDone n code) (length-map c.args.screens.now state)
-          (subst (λ (a : Option Order). IfSome a (λ order. AllFinished service from to order.connections → IsDone (length from.screens) code)) same all.finished (listeners, screens));
+          (subst (λ (a : Option Order). IfSome a (λ order. AllFinished (before no_source) (after no_source) order.connections → IsDone (length (map state c.args.screens.now)) code)) same all.finished (listeners, screens));
       failed = all.failed;
       usage = all.usage;
       usage_alone = all.usage_alone;
-      complete = λ source. complete service from to asked (before source) (after source) code (serves source) is all.failed;
+      complete = λ source. complete service asked (before source) (after source) code (serves source) is all.failed;
       shelf_kept = subst (λ (a : Option Order). KeptUnless (is_some a) c.args.shelf.now done.new.shelf) c.order_of-order.ensures.order done.ensures.shelf_kept;
-      listeners_kept = kept_also (was_served end) (has_served (length c.args.screens.now) code) c.args.listeners.now done.new.listeners may done.ensures.listeners_kept;
-      screens_kept = kept_also (was_served end) (has_served (length c.args.screens.now) code) c.args.screens.now done.new.screens may done.ensures.screens_kept;
+      listeners_kept = kept_also (is_attended end) (has_served (length c.args.screens.now) code) c.args.listeners.now done.new.listeners may done.ensures.listeners_kept;
+      screens_kept = kept_also (is_attended end) (has_served (length c.args.screens.now) code) c.args.screens.now done.new.screens may done.ensures.screens_kept;
       disk_kept = subst (λ (n : ℕ). KeptUnless (not (serve_ends_before_journal n)) c.args.disk done.result.1) (sym is) done.ensures.disk_kept;
     }

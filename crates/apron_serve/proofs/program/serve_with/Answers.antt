@@ -5,9 +5,9 @@ use Rattle.desk_workers.specs.Watched.{feed_texts}
 use Rattle.apron_base.specs.Ends.{SourceState}
 use Rattle.apron_run.specs.Run.{KeptUnless}
 use Rattle.apron_run.specs.Statuses.{exit_code}
-use Rattle.apron_run.specs.World.{World, world_at}
+use Rattle.apron_run.specs.World.{World}
 use Rattle.apron_run.specs.declared.status.Status.TheVariants.{Done, ListenerFault, Memory, Usage}
-use Rattle.apron_serve.specs.Board.{Listening, Service}
+use Rattle.apron_serve.specs.Board.{Service, serve_world}
 use Rattle.apron_serve.specs.Complete.{IsServeComplete}
 use Rattle.apron_serve.specs.Orders.{Order, order_of}
 use Rattle.apron_serve.specs.Serve.{HaveFinished, ServesAs, SomeFailed, has_served}
@@ -26,13 +26,14 @@ returns g c =
     let served = c.serve_all.new.listeners in
     let left = c.serve_all.new.screens in
     let code = c.serve_all.result.0 in
-    let listening : List L → List L → Listening _ _ = λ listeners screens. record { listeners = map state listeners; screens = map state screens } in
-    let before : SourceState → World = λ source. world_at (g.F.Shelf.state c.args.shelf.now) source (g.W.Sink.state c.args.sink.now) (g.D.Disk.state c.args.disk) in
-    let after : SourceState → World = λ source. world_at (g.F.Shelf.state c.serve_all.new.shelf) source (g.W.Sink.state c.serve_all.new.sink) (g.D.Disk.state c.serve_all.result.1) in
+    let before : SourceState → List L → List L → World _ _ = λ source listeners screens.
+    serve_world state (g.F.Shelf.state c.args.shelf.now) source listeners screens (g.W.Sink.state c.args.sink.now) (g.D.Disk.state c.args.disk) in
+    let after : SourceState → List L → List L → World _ _ = λ source listeners screens.
+    serve_world state (g.F.Shelf.state c.serve_all.new.shelf) source listeners screens (g.W.Sink.state c.serve_all.new.sink) (g.D.Disk.state c.serve_all.result.1) in
     let ensures = c.serve_all.ensures in
     let none : length front ≡ 0 = c.split_at_mut-none.ensures.front_len in
     let serves = ensures.headline no_source in
-    let as_many : length (map state left) ≡ length (map state front) = many service (listening desks front) (listening served left) _ _ _ serves.end serves.does in
+    let as_many : length (map state left) ≡ length (map state front) = many service (before no_source desks front) (record (after no_source served left) { sink = serves.written }) _ serves.end serves.does in
     let empty : length left ≡ 0 = sym (length-map left state) ∙ (as_many ∙ (length-map front state ∙ none)) in
     let all : (P : List L → List L → List L → List L → Type 0) → P desks front served left → P c.args.listeners.now [] (left ++ served) [] =
     λ P holds. of_all P c.args.listeners.now front desks left served c.split_at_mut-none.ensures.value none empty holds in
@@ -48,7 +49,7 @@ returns g c =
     → IfSome (order_of words (length olds) (length screens)) (λ order. IsSome order.day)) ensures.usage_alone in
     record {
       headline = all (λ olds screens news left. (source : SourceState)
-          → ServesAs service (listening olds screens) (listening news left) (order_of words (length olds) (length screens)) (before source) (after source) code) ensures.headline;
+          → ServesAs service (order_of words (length olds) (length screens)) (before source olds screens) (after source news left) code) ensures.headline;
       done = λ order is. (
         (λ zero. (done order is zero).0),
         (λ have. ⊎_elim (λ zero. zero) (λ memory. absurd (let no : 0 < 0 = memory.1 in omega (arith, no))) (finished order is have refl)),
@@ -56,7 +57,7 @@ returns g c =
       failed = λ is. ⊎_elim (λ some. some) (λ none. absurd none) (failed is);
       usage = ((λ is. no_screen_order words (length c.args.listeners.now) (usage_alone is)), usage);
       complete = all (λ olds screens news left. (source : SourceState)
-          → IsServeComplete (listening olds screens) (listening news left) (order_of words (length olds) (length screens)) (before source) (after source) code) ensures.complete;
+          → IsServeComplete (order_of words (length olds) (length screens)) (before source olds screens) (after source news left) code) ensures.complete;
       shelf_kept = all (λ olds screens news left. KeptUnless (is_some (order_of words (length olds) (length screens))) c.args.shelf.now c.serve_all.new.shelf)
           ensures.shelf_kept;
       listeners_kept = all (λ olds screens news left. KeptUnless (has_served (length screens) code) olds news) ensures.listeners_kept;
