@@ -5,7 +5,7 @@ use crate::Listed;
 #[derive(Clone, Copy, Debug, PartialEq, Eq)]
 pub struct Failed;
 
-/// What one ask of a desk gives. After all but a reply nothing has changed.
+/// What one ask of a desk gives. Only with a reply can it have added an entry.
 #[derive(Debug, Drop)]
 pub enum Acted {
     /// The bytes of the reply.

@@ -12,7 +12,7 @@ ghost use Rattle.desk_workers.specs.Together.{AreCutFrom, MeetsAll, WorkAll, Wor
 
 use crate::machine::DeskMachine;
 use crate::seat_port::SeatPort;
-use crate::worker::{Server, Sessions, WorkEnd, work_each};
+use crate::worker::{ConnectionHandler, Sessions, WorkEnd, work_each};
 use apron_base::{Listener, Memory};
 use apron_rules::Airport;
 use std::alloc::Global;
@@ -202,11 +202,11 @@ pub trait Workplace {
 
     /// Accepts this many connections one after the other, serves each by what the worker has of its
     /// own, and finishes it. It ends early only if the listener fails.
-    fn work<S, K: Server<S>, R: Wait>(
+    fn work<S, K: ConnectionHandler<S>, R: Wait>(
         &mut self,
         rt: &R,
         alloc: Global,
-        server: &K,
+        handler: &K,
         own: &mut S,
         connections: u32,
     ) -> WorkEnd
@@ -225,23 +225,23 @@ impl<L: Listener> Workplace for L {
 
     ghost state = { L.state };
 
-    fn work<S, K: Server<S>, R: Wait>(
+    fn work<S, K: ConnectionHandler<S>, R: Wait>(
         &mut self,
         rt: &R,
         alloc: Global,
-        server: &K,
+        handler: &K,
         own: &mut S,
         connections: u32,
     ) -> WorkEnd {
-        work_each(rt, alloc, server, own, self, connections)
+        work_each(rt, alloc, handler, own, self, connections)
     }
 }
 
 // The only listener of a list, served by the only one of a list of ports or screens.
-fn work_first<S, K: Server<S>, W: Workplace, R: Wait>(
+fn work_first<S, K: ConnectionHandler<S>, W: Workplace, R: Wait>(
     rt: &R,
     alloc: Global,
-    server: &K,
+    handler: &K,
     owns: &mut [S],
     listeners: &mut [W],
     connections: u32,
@@ -251,13 +251,13 @@ fn work_first<S, K: Server<S>, W: Workplace, R: Wait>(
     ensures works { WorkEach (K.serves W.states) K.fixed K.state W.state connections
         owns.old listeners.old owns.new listeners.new result }
 {
-    listeners[0].work(rt, alloc, server, &mut owns[0], connections)
+    listeners[0].work(rt, alloc, handler, &mut owns[0], connections)
 }
 
 // The worker of the only listener of a list, in a thread of its own, and another job beside it.
 fn work_beside<
     S: Send,
-    K: Server<S> + Sync,
+    K: ConnectionHandler<S> + Sync,
     W: Workplace + Send,
     R: Threads + Wait + Sync,
     J: FnMut() -> T,
@@ -265,7 +265,7 @@ fn work_beside<
 >(
     rt: &R,
     alloc: Global,
-    server: &K,
+    handler: &K,
     owns: &mut [S],
     listeners: &mut [W],
     connections: u32,
@@ -284,7 +284,7 @@ fn work_beside<
             requires { (length owns.now ≡ 1) × (length listeners.now ≡ 1) }
             ensures works { WorkEach (K.serves W.states) K.fixed K.state W.state connections
                 owns.entry.now listeners.entry.now owns.exit.now listeners.exit.now result }
-        { work_first(rt, alloc, server, owns, listeners, connections) },
+        { work_first(rt, alloc, handler, owns, listeners, connections) },
         job,
     )
 }
@@ -294,7 +294,7 @@ fn work_beside<
 /// first worker in order that stopped early, and are done if none did.
 pub fn work_all<
     S: Send,
-    K: Server<S> + Sync,
+    K: ConnectionHandler<S> + Sync,
     W: Workplace + Send,
     R: Threads + Wait + Sync,
     J: FnMut() -> T,
@@ -302,7 +302,7 @@ pub fn work_all<
 >(
     rt: &R,
     alloc: Global,
-    server: &K,
+    handler: &K,
     owns: &mut [S],
     listeners: &mut [W],
     connections: u32,
@@ -322,7 +322,7 @@ pub fn work_all<
     let (one, (end, done)) = work_beside(
         rt,
         alloc,
-        server,
+        handler,
         own,
         first,
         connections,
@@ -332,7 +332,7 @@ pub fn work_all<
             ensures works { WorkAll (K.serves W.states) K.fixed K.state W.state connections
                 others.entry.now rest.entry.now others.exit.now rest.exit.now result.0 }
             ensures job { J.step job.entry.now result.1 job.exit.now }
-        { work_all(rt, alloc, server, others, rest, connections, job) },
+        { work_all(rt, alloc, handler, others, rest, connections, job) },
     );
     (first_end(one, end), done)
 }

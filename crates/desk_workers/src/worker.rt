@@ -20,7 +20,7 @@ pub enum WorkEnd {
 }
 
 /// How connections are served by what a worker has of its own: a port, or a screen.
-pub trait Server<S> {
+pub trait ConnectionHandler<S> {
     ghost use Rattle.std.specs.Prelude.{◌≡◌};
     ghost use Rattle.desk_workers.specs.Work.{Connection, EndStates};
 
@@ -61,7 +61,7 @@ pub trait Server<S> {
 /// Each connection has a session with feeds over the port of a desk.
 pub(crate) struct Sessions;
 
-impl<P: FeedPort> Server<P> for Sessions {
+impl<P: FeedPort> ConnectionHandler<P> for Sessions {
     ghost use Rattle.desk_http.specs.Ports.{PortState};
     ghost use Rattle.desk_workers.specs.Feeds.{kinds_at};
     ghost use Rattle.desk_workers.specs.Work.{HasSession};
@@ -112,10 +112,10 @@ pub fn work<P: FeedPort, L: Listener, R: Wait>(
 /// Accepts this many connections one after the other, and serves each by what the worker has of its
 /// own. It finishes each with the outcome of that, whatever this is. It ends early only if the
 /// listener fails.
-pub(crate) fn work_each<S, K: Server<S>, L: Listener, R: Wait>(
+pub(crate) fn work_each<S, K: ConnectionHandler<S>, L: Listener, R: Wait>(
     rt: &R,
     alloc: Global,
-    server: &K,
+    handler: &K,
     own: &mut S,
     listener: &mut L,
     connections: u32,
@@ -127,7 +127,7 @@ pub(crate) fn work_each<S, K: Server<S>, L: Listener, R: Wait>(
     ensures fixed { K.fixed own.new ≡ K.fixed own.old }
 {
     for _served in 0..connections {
-        if let Err(Failed) = serve_next(rt, alloc, server, own, listener) {
+        if let Err(Failed) = serve_next(rt, alloc, handler, own, listener) {
             return WorkEnd::ListenerFault;
         }
     }
@@ -135,10 +135,10 @@ pub(crate) fn work_each<S, K: Server<S>, L: Listener, R: Wait>(
 }
 
 // Serves the next connection, and finishes it. At `Err` the listener failed, and none was accepted.
-fn serve_next<S, K: Server<S>, L: Listener, R: Wait>(
+fn serve_next<S, K: ConnectionHandler<S>, L: Listener, R: Wait>(
     rt: &R,
     alloc: Global,
-    server: &K,
+    handler: &K,
     own: &mut S,
     listener: &mut L,
 ) -> Result<(), Failed>
@@ -149,7 +149,7 @@ fn serve_next<S, K: Server<S>, L: Listener, R: Wait>(
     ensures fixed { K.fixed own.new ≡ K.fixed own.old }
 {
     let (mut source, mut sink) = listener.accept(rt)?;
-    let outcome = server.serve(alloc, own, &mut source, &mut sink);
+    let outcome = handler.serve(alloc, own, &mut source, &mut sink);
     listener.finish(source, sink, outcome);
     Ok(())
 }

@@ -2,14 +2,14 @@
 ghost use Rattle.screen_server.specs.Looks.{LooksOnce};
 
 use apron_base::{Failed, Outcome, Sink, Source};
-use desk_workers::Server;
+use desk_workers::ConnectionHandler;
 use screen_feed::Screen;
 use std::alloc::Global;
 
 /// Each connection has one look of a screen. Nothing is read from it.
 pub(crate) struct Looks;
 
-impl Server<Screen> for Looks {
+impl ConnectionHandler<Screen> for Looks {
     ghost use Rattle.screen_feed.specs.Screens.{ScreenState};
     ghost use Rattle.screen_server.specs.Looks.{HasLook};
 

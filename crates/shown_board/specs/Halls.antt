@@ -78,8 +78,9 @@ pub record HallHeld (K R : Type 0) : Type 0 where
   pub missed : Bool
   pub begun : ℕ
 
--- what is known of a hall that has ended: with which call it began, the version of its board's plan,
--- how many writers it had, and whether one of them did not show that version
+-- what is known of a hall that has ended: the least number that its first call could have, the
+-- version of its board's plan, how many writers it had, and whether one of them did not show that
+-- version
 pub record HallNoteState : Type 0 where
   pub begun : ℕ
   pub version : ℕ

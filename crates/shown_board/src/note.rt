@@ -3,8 +3,9 @@ ghost use Rattle.std.specs.Prelude.{◌≡◌};
 
 use std::marker::Model;
 
-/// Whether the writers of a hall showed the version of its board's plan. Only a hall makes one, and
-/// contracts see of which: with which call it began, how many writers it has, and that version.
+/// Whether the writers of a hall showed the last version of its board's plan. Only a hall makes one.
+/// Contracts see the least number that the hall's first call could have, how many writers it has,
+/// and that version.
 #[derive(Drop)]
 pub struct HallNote {
     pub(crate) begun: u64,

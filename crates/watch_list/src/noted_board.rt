@@ -182,7 +182,7 @@ impl<'a> NotedBoard<'a, SteadyKeeper> {
         match self.ask(alloc, entry.call, &ask) {
             Acted::Reply(_) => Ok(()),
             Acted::Memory => Err(Memory),
-            // The keeper never fails, and no board wants numbers.
+            // A steady keeper never fails, and no board answers `Spent`.
             Acted::Fault | Acted::Spent => unreachable!(),
         }
     }
