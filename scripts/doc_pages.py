@@ -116,14 +116,17 @@ def link_faults(top, pages):
         yield from (f"{page.path}:{line}: {name} is mentioned without a link" for line, name in page.mentions())
 
 
-def size_faults(pages, limits):
-    """The pages that are larger than their limit, without what scripts make, or have none; limits are rows of a pattern of paths, and bytes."""
+def size_words(pages, limits):
+    """Warnings and faults of pages by their size, without what scripts make. Limits are rows of a pattern of paths, the bytes above which it is a
+    warning, and those above which it is a fault. A page without a row is a fault."""
     sizes = {page.path: len(MADE.sub("", page.text).encode()) for page in pages}
-    taken = set()
-    for pattern, most in limits:
+    taken, warnings, faults = set(), [], []
+    for pattern, wanted, most in limits:
         paths = [path for path in sizes if path not in taken and re.fullmatch(pattern, path)]
         taken.update(paths)
         size = sum(sizes[path] for path in paths)
         if size > most:
-            yield f"{', '.join(paths)}: {size} bytes, and the limit is {most}"
-    yield from (f"{path}: it has no limit" for path in sizes if path not in taken)
+            faults.append(f"{', '.join(paths)}: {size} bytes, and the most is {most}")
+        elif size > wanted:
+            warnings.append(f"{', '.join(paths)}: {size} bytes, more than {wanted}; above {most} it fails")
+    return warnings, faults + [f"{path}: it has no limit" for path in sizes if path not in taken]
