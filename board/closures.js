@@ -1,5 +1,5 @@
-// A stand that is closed: a visit of priority 0, named CLOSED- and a number, is put on it for the minutes. The server knows no closures; a name
-// is never free again, so each has a number of its own.
+// A stand that is closed: a visit of its own is put on it for the minutes (docs/reference/board.md, Closures). A name is never free again, so each
+// closure has a number of its own.
 
 import { DAY, clashesOf, indexOf, slotOn, unfitOf } from "./rules.js";
 import { flightOf, isLive } from "./visits.js";

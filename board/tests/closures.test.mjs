@@ -1,6 +1,7 @@
 // A stand closed and opened.
 
 import assert from "node:assert/strict";
+import { readFileSync } from "node:fs";
 import { test } from "node:test";
 import { closing, closureTypes, isClosure, opening } from "../closures.js";
 import { judge } from "../draft.js";
@@ -44,9 +45,12 @@ test("a closure is opened by a cancel", () => {
   assert.match(opening(visit(1, "A320", [part(600, 660)])).refused, /no closure/);
 });
 
+// trials/plan-holds tries the planner with the same names and priorities.
 test("closures are known by name and class", () => {
-  const rows = [[closed(4, 600, 720, "N1"), true], [closed(4, 600, 720, "N1", { class: 5 }), false], [closed(4, 600, 720, "N1", { name: "CLOSED-X" }), false]];
-  for (const [it, is] of rows) assert.equal(isClosure(it), is);
+  const rows = JSON.parse(readFileSync(new URL("closures.json", import.meta.url), "utf8"));
+  for (const [name, priority, is] of rows) {
+    assert.equal(isClosure(visit(1, "B190", [part(600, 720)], { name, class: priority })), is, `${name} of priority ${priority}`);
+  }
 });
 
 test("the types that close a stand begin with the narrowest", () => {

@@ -24,7 +24,7 @@ class Part:
         self.begin, self.end, self.was, self.stand = begin, end, was, None
         # Whether it is unallocated in the server's plan.
         self.waits = was is None
-        # Whether a method may give it another stand; one that waits in the plan is planned here, another one has moved.
+        # Whether a method may give it another stand; one that waits in the plan is planned here, another one has moved. A closure's part never is.
         self.is_free = is_free
         self.costs, self.options, self.rank = {}, [], 0
         # Its flight or its visit's name, its airline, how many parts the visit has, and the split of which it is a piece.

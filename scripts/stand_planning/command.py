@@ -175,7 +175,7 @@ class Planner:
             self.write(picture, desk.drafts_of(self.airport, allocation, cuts))
 
     def tell_left(self, allocation):
-        for line in words.left_table(self.airport, allocation):
+        for line in (*words.closures(self.airport, allocation), *words.left_table(self.airport, allocation)):
             print(line)
 
     def write(self, picture, drafts):

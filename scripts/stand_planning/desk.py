@@ -5,6 +5,7 @@ import http.client
 import json
 import os
 import random
+import re
 import string
 import sys
 import time
@@ -23,6 +24,7 @@ MOST_BUFFER = 240
 LATER, MOST_AGAIN, PAUSE = {502, 503, 504, 507}, 10, 1
 # How often a plan is read again so that all its parts are of one version.
 MOST_LOOKS = 5
+CLOSURE = re.compile("CLOSED-[0-9]{1,5}")
 
 
 class Fault(Exception):
@@ -109,6 +111,11 @@ class Picture:
         self.version, self.parts, self.past = version, parts, past
 
 
+def is_closure(visit):
+    """Whether the visit closes a stand (docs/reference/board.md, Closures)."""
+    return visit["class"] == 0 and CLOSURE.fullmatch(visit["name"]) is not None
+
+
 def read(desk, airport, window, is_whole=False):
     """The picture of a window of the plan, read on the days that matter to what is planned, or on all days. While clients work its parts may be of
     several versions: then its version is the first, and the server refuses a draft over it that would undo what came later."""
@@ -138,14 +145,15 @@ def days_of(rows, airport, window):
 
 
 def parts_of(airport, window, visit, ranks, days):
-    """The parts of a visit that hold stands, and those that are to be planned."""
+    """The parts of a visit that hold stands, and those that wait in the window. A closure's are not free."""
     rules, flight = airport.rules, visit["arr"] or visit["dep"]
     for number, it in enumerate(visit["parts"], 1):
         was = None if it["stand"] is None else rules.stand_of[it["stand"]]
-        is_planned_here = was is None and (visit["visit"], number) in ranks
-        if was is None and not is_planned_here:
+        is_waiting = was is None and (visit["visit"], number) in ranks
+        if was is None and not is_waiting:
             continue
-        is_free = is_planned_here or (visit["state"] not in ("gone", "cancelled") and window.may_move(it, days, airport))
+        may_move = visit["state"] not in ("gone", "cancelled") and window.may_move(it, days, airport)
+        is_free = not is_closure(visit) and (is_waiting or may_move)
         part = Part(visit["visit"], number, rules.type_of[visit["type"]], visit["class"], it["from"], it["to"], was, is_free)
         part.label = flight["flight"] if flight else visit["name"]
         part.airline = airline_of(flight["flight"]) if flight else ""

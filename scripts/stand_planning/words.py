@@ -35,6 +35,12 @@ def changes(airport, allocation, cuts):
     return [line for _, line in sorted(lines)]
 
 
+def closures(airport, allocation):
+    """A line for each closure that has no stand, in the order of their times."""
+    return [f"{name_of(airport, it)}: a closure without a stand, which is not planned; cancel it, and close the stand again on the board"
+            for it in sorted(allocation.parts, key=lambda it: it.begin) if it.waits and not it.is_free]
+
+
 def left_table(airport, allocation):
     """The lines of a table of the parts that are left, by rank: how many stands fit, where the least is in the way, and what."""
     rows = [LEFT, *(left_row(airport, allocation, it) for it in waiting(allocation))]
