@@ -1,6 +1,7 @@
 // A first-fit draft for the parts that wait, as the server's own command proposes one (docs/reference/cli.md): by rank, each on the first stand of the
-// airport file that it fits. It does not look ahead.
+// airport file that it fits. It does not look ahead. A closure is not put on another stand.
 
+import { isClosure } from "./closures.js";
 import { firstClash, indexOf, slotOn, unfitOf } from "./rules.js";
 import { MOST_EDITS } from "./draft.js";
 import { stateOf, visitsAfter, waitingOf } from "./visits.js";
@@ -30,6 +31,7 @@ export function proposalOf(model, visits, { begin, end, edits = [], most = MOST_
   if (now !== null) stayLonger(index, plan, now);
   const proposal = { edits: [], left: [], over: [] };
   for (const { visit, part } of waitingOf(plan.values(), begin, end)) {
+    if (isClosure(visit)) continue;
     const id = { visit: visit.visit, part };
     if (edits.length + proposal.edits.length >= most) {
       proposal.over.push(id);

@@ -1,6 +1,7 @@
 // Warnings before an alarm: an aircraft still stands where another is due, or a part without a stand comes to its time. The server's plan has
 // none of this: for it an aircraft leaves at its expected end. Minutes are those of the plan.
 
+import { isClosure } from "./closures.js";
 import { fitsOf, indexOf, letterOf, meetingOf, slotOn } from "./rules.js";
 import { isLive, stateOf } from "./visits.js";
 
@@ -60,6 +61,8 @@ export function soonOf(model, visits, now, { within = 30, red = 10 } = {}) {
     if (!isLive(visit)) continue;
     visit.parts.forEach((it, place) => {
       if (it.actual || it.from - now > within || it.to <= now) return;
+      // No other stand mends a closure that lost its own: that is an event.
+      if (it.stand === null && isClosure(visit)) return;
       warnings.push(...(it.stand === null ? [unplaced(round, visit, place + 1)] : occupied(round, visit, place + 1)));
     });
   }

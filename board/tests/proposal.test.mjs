@@ -30,6 +30,11 @@ test("only what waits in the window is proposed, over the draft so far and up to
   assert.deepEqual(puts(proposalOf(demo, plan, { begin: 1440, end: 2880 })), ["2.1 N1"]);
 });
 
+test("a closure that lost its stand is put on no other, and one on a stand stays in the way", () => {
+  const closure = (number, stand) => visit(number, "B190", [part(600, 660, stand)], { name: `CLOSED-${number}`, class: 0 });
+  assert.deepEqual(puts(proposalOf(demo, planOf(closure(1, null), closure(2, "N1"), visit(3, "A320", [part(600, 660)])), DAY)), ["3.1 N2"]);
+});
+
 test("with the present minute, the stand of an overdue aircraft is left out for a while", () => {
   const plan = planOf(present(1, "A320", 500, 560, "N1"), visit(2, "A320", [part(600, 660)]), visit(3, "A320", [part(640, 700)]));
   assert.deepEqual(puts(proposalOf(demo, plan, DAY)), ["2.1 N1", "3.1 N2"]);

@@ -48,6 +48,12 @@ test("a wide neighbour that has not left is in the way by its wing tips, and a h
   assert.deepEqual(told(planOf(present(1, "AT76", 500, 650, "12L"), visit(2, "AT76", [part(680, 740, "12R")])), 672), []);
 });
 
+test("a closure warns of an aircraft that is still there, and of nothing if it has no stand", () => {
+  const closure = (stand) => visit(2, "B190", [part(680, 740, stand)], { name: "CLOSED-2", class: 0 });
+  assert.deepEqual(told(planOf(present(1, "A320", 600, 660, "N1"), closure("N1")), 660), ["occupied amber 680 2"]);
+  assert.deepEqual(told(planOf(closure(null)), 660), []);
+});
+
 test("an arrival that is earlier than scheduled needs the stand of an overdue departure", () => {
   const early = visit(2, "A320", [part(675, 740, "N1")], { on: 700 });
   assert.deepEqual(told(planOf(present(1, "A320", 600, 660, "N1"), early), 670), ["needed red 675 2"]);
