@@ -11,7 +11,7 @@ HELP, PRINTED = "crates/apron_run/specs/Print.antt", "crates/apron_run/src/print
 COMMANDS = "docs/reference/cli.md"
 USAGE = "crates/apron/src/forms.rt"
 TABLES = ("crates/apron_run/specs/Words.antt", "crates/apron_serve/specs/Orders.antt")
-MANUALS = ("packaging/man/apron.1", "packaging/man/apron-journal.5")
+MANUALS = ("packaging/man/apron.1", "packaging/man/apron-demo.1", "packaging/man/apron-journal.5")
 KEYS, BOARD = "board/keys.js", "docs/reference/board.md"
 # What `main` takes off before the words are read as the tables of the definitions have them.
 TAKEN_OFF = {"ADDRESS", "WORKERS", "SCREENADDRESS", "SCREENS", "JOURNAL"}
