@@ -25,7 +25,7 @@ def tell_past(link, writer, seed, numbers, place):
 
 
 def tell_times(link, writer, visit, seed):
-    story = story_of(seed, visit["name"])
+    story = story_of(seed, visit)
     if visit["arr"] is not None and story.arrival_told is not None:
         link.post("/mvt", writer.lands_at(visit, story, visit["on"] + story.comes_late - TAXI_IN), DESK)
         time.sleep(PAUSE)

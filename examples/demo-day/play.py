@@ -25,7 +25,7 @@ class Play:
 
     def story(self, visit):
         if visit["name"] not in self.stories:
-            self.stories[visit["name"]] = story_of(self.seed, visit["name"])
+            self.stories[visit["name"]] = story_of(self.seed, visit)
         return self.stories[visit["name"]]
 
     def look(self, now):

@@ -1,7 +1,14 @@
-"""What happens to a visit: drawn from the seed and the visit's name, so that it is the same however the day is played."""
+"""What happens to a visit: drawn from the seed, the day of the plan and the visit's number on it, so that it is the same however the day is
+played, and on whatever date."""
 
+import datetime
 import random
 from typing import NamedTuple, Optional
+
+from clock import MINUTES_OF_DAY
+
+# The first day of the plan in the pictures of docs/tutorial: so each day has their stories.
+PICTURED = datetime.date(2026, 11, 29)
 
 
 class Story(NamedTuple):
@@ -17,9 +24,11 @@ class Story(NamedTuple):
     registration: str
 
 
-def story_of(seed, name):
-    """The story of the visit of this name."""
-    draws = random.Random(f"{seed} {name}")
+def story_of(seed, visit):
+    """The story of a visit."""
+    day = PICTURED + datetime.timedelta(days=visit["on"] // MINUTES_OF_DAY)
+    number = visit["name"].partition("-")[2]
+    draws = random.Random(f"{seed} {day.strftime('%b%d').upper()}-{number}")
     comes_late, arrival_told = arrival_of(draws)
     leaves_late, departure_told = departure_of(draws)
     letters = "".join(draws.choice("ABCDEFGHIJKLMNOPQRSTUVWXYZ") for _ in range(3))
