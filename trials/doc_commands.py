@@ -13,6 +13,10 @@ PATIENCE = 300
 APART = ["unshare", "--user", "--map-root-user", "--net", "/bin/sh", "-c", 'ip link set lo up && exec "$@"', "page"]
 
 
+class Lacking(Exception):
+    """Something without which no block can be run."""
+
+
 def parse_fault(block):
     """Why a block is no shell script, or None."""
     ran = subprocess.run(["bash", "-n"], input=block.text, capture_output=True, text=True)
@@ -33,9 +37,11 @@ def script_of(blocks, room):
 
 
 def clone(top, room):
-    """A fresh clone of what is committed."""
+    """A fresh clone of what is committed, which has to have a shipped program of its sources: else its first command would build one."""
     folder = os.path.join(room, "apron")
     subprocess.run(["git", "clone", "--quiet", "--no-hardlinks", top, folder], check=True, capture_output=True, timeout=PATIENCE)
+    if subprocess.run([os.path.join(folder, "scripts", "program"), "--shipped"], capture_output=True).returncode != 0:
+        raise Lacking("no program of the committed sources is shipped")
     return folder
 
 
