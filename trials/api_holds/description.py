@@ -7,6 +7,7 @@ import re
 
 import jsonschema
 
+from api_holds.exact import with_meaning
 from api_holds.form import inner_schemas, operations_of, read_yaml, resolved
 from api_holds.texts import NotJson, json_of
 
@@ -40,14 +41,16 @@ class Operation:
         self.method, self.path, self.name = method.upper(), path, it["operationId"]
         self.parameters = [document.found(given) for given in it["parameters"]]
         self.body = document.found(it["requestBody"])["content"] if "requestBody" in it else None
-        self.responses = {status: document.found(response) for status, response in it["responses"].items()}
+        responses = {status: document.found(response) for status, response in it["responses"].items()}
+        self.responses = {status: response for status, response in responses.items() if "x-from-proxy" not in response}
 
 
 class Description:
-    """An API description."""
+    """An API description, with what its schemas mean exactly, or as tools read them."""
 
-    def __init__(self, path):
-        self.document = read_yaml(path)
+    def __init__(self, path, is_exact=True):
+        self.written, self.is_exact = read_yaml(path), is_exact
+        self.document = with_meaning(self.written, is_exact)
         self.limits, self.validators = self.document["x-limits"], {}
         self.operations = [Operation(self, *it) for it in operations_of(self.document)]
         self.paths = [(re.compile(re.sub(r"\{(\w+)\}", r"(?P<\1>[^/]*)", name)), name, item) for name, item in self.document["paths"].items()]
@@ -64,7 +67,7 @@ class Description:
         return self.validators[id(schema)]
 
     def is_valid(self, schema, value):
-        return schema is not False and self.validator(schema).is_valid(value)
+        return self.validator(schema).is_valid(value)
 
     def fault_in(self, schema, value):
         """Why a value is not of a schema, or None."""
@@ -169,6 +172,16 @@ class Description:
         self.came |= set(self.choices_in(content["schema"], value, f"{name} {reply.code}"))
         return None
 
+    def tools_fault(self, request, reply):
+        """Why a tool that reads the description as it is written would refuse an allowed request, or its reply; None if it would not."""
+        operation = self.operation_of(request)
+        response = operation and operation.responses.get(str(reply.code))
+        if not response:
+            return None
+        if reply.code == 200 and (word := self.body_fault(request)):
+            return f"as it is written the description forbids it with {word}"
+        return self.fault_in(response["content"][reply.media]["schema"], reply.body.decode() if reply.media == "text/plain" else json.loads(reply.body))
+
     def head_of_reply_fault(self, response, schema, value, reply):
         headers = {key: self.found(it) for key, it in response.get("headers", {}).items()}
         for key in REPLY_FIELDS:
@@ -245,14 +258,31 @@ class Description:
         once = {word for *_, word in (it for it in self.came if len(it) == 3) if word in MADE_ONCE}
         return sorted({it for it in self.described() if it not in self.came and it[-1] not in once}, key=str)
 
+    def examples_of(self, operation):
+        """The examples of an operation's bodies: the status, or None for a request, the content that has them, and they by their names."""
+        rows = [(None, operation.body or {}), *((status, it["content"]) for status, it in operation.responses.items())]
+        for status, contents in rows:
+            for content in contents.values():
+                yield status, content, {name: it["value"] for name, it in content.get("examples", {}).items()}
+
     def example_faults(self):
-        """The examples of the description that are not of their schema."""
+        """The examples that are not of their schema, and what has none."""
+        schemas = self.document["components"]["schemas"]
+        for name, it in self.written["components"]["schemas"].items():
+            # Numbers of the head are texts in their exact form.
+            is_text = it.get("type") == "integer" and "x-form" in it
+            if fault := self.fault_in(schemas[name], str(it["example"]) if is_text and self.is_exact else it["example"]):
+                yield f"{name}: the example: {fault}"
         for operation in self.operations:
-            contents = [operation.body or {}, *(it["content"] for it in operation.responses.values())]
-            for content in (it for kind in contents for it in kind.values()):
-                examples = [content["example"]] if "example" in content else [it["value"] for it in content.get("examples", {}).values()]
-                faults = [self.fault_in(content["schema"], it) for it in examples]
-                yield from (f"{operation.name}: an example: {fault}" for fault in faults if fault)
+            for status, content, examples in self.examples_of(operation):
+                at = f"{operation.name} {status or 'request'}"
+                if not examples:
+                    yield f"{at}: it has no example"
+                faults = [(name, self.fault_in(content["schema"], it)) for name, it in examples.items()]
+                yield from (f"{at}: the example {name}: {fault}" for name, fault in faults if fault)
+                later = [{**it, "later": 1} for it in examples.values() if status and isinstance(it, dict)]
+                if any(self.is_valid(content["schema"], it) == self.is_exact for it in later):
+                    yield f"{at}: a reply with one more key is {'one' if self.is_exact else 'none'} of its schema"
 
 
 def words_in(schema):

@@ -1,25 +1,28 @@
-"""Whether an API description is valid: in the form of OpenAPI 3.1, by the schema beside it, with each schema in it one of JSON Schema's Draft
-2020-12, and with what neither of them can say. It needs the Debian packages python3-yaml and python3-jsonschema."""
+"""Whether an API description is valid: in the form of OpenAPI 3.0, by the schema of the Debian package openapi-specification if that is there, and
+in what this schema cannot say. Each schema and operation is described, each pattern is one that every engine has, and each x-form is a
+schema of JSON Schema's Draft 2020-12. It needs the Debian packages python3-yaml and python3-jsonschema."""
 
+import json
 import os
 import re
 
 import jsonschema
 import yaml
 
-FORM = "openapi-3.1.schema.yaml"
+FORM = "/usr/share/openapi-specification/schemas/v3.0/schema.json"
 METHODS = ("get", "put", "post", "delete", "options", "head", "patch", "trace")
-# The keywords of Draft 2020-12 that a description may use, and the fields of OpenAPI's own. Another word is a slip of the pen.
+# The keywords of a schema of OpenAPI 3.0.
 KEYWORDS = {
-    "$ref", "type", "enum", "const", "minimum", "maximum", "exclusiveMinimum", "exclusiveMaximum", "multipleOf", "minLength", "maxLength",
-    "pattern", "format", "items", "prefixItems", "contains", "minItems", "maxItems", "uniqueItems", "properties", "patternProperties",
-    "additionalProperties", "propertyNames", "required", "minProperties", "maxProperties", "dependentRequired", "allOf", "anyOf", "oneOf", "not",
-    "if", "then", "else", "title", "description", "default", "deprecated", "readOnly", "writeOnly", "examples", "example", "externalDocs",
-    "discriminator", "xml"}
+    "$ref", "title", "multipleOf", "maximum", "exclusiveMaximum", "minimum", "exclusiveMinimum", "maxLength", "minLength", "pattern", "maxItems",
+    "minItems", "uniqueItems", "maxProperties", "minProperties", "required", "enum", "type", "allOf", "oneOf", "anyOf", "not", "items",
+    "properties", "additionalProperties", "description", "format", "default", "nullable", "discriminator", "readOnly", "writeOnly", "xml",
+    "externalDocs", "example", "deprecated", "x-form", "x-closes"}
 # Where a schema has schemas: as the value, in a list, or under names.
-WITHIN = {"items": "one", "additionalProperties": "one", "propertyNames": "one", "contains": "one", "not": "one", "if": "one", "then": "one",
-          "else": "one", "allOf": "list", "anyOf": "list", "oneOf": "list", "prefixItems": "list", "properties": "names",
-          "patternProperties": "names"}
+WITHIN = {"items": "one", "not": "one", "allOf": "list", "anyOf": "list", "oneOf": "list", "properties": "names"}
+# Looks around a place, and references back: engines that match in linear time, as Go's and Rust's, do not have them.
+NOT_REGULAR = re.compile(r"\(\?<?[=!]|\\[1-9]|\(\?P=|\\k<")
+# Fields of the head that an operation's parameters cannot describe, since a client's library writes them.
+NO_PARAMETERS = {"accept", "content-type", "authorization", "content-length", "transfer-encoding", "connection", "host"}
 
 
 def read_yaml(path):
@@ -87,19 +90,27 @@ def operations_of(described):
 
 def schema_faults(at, schema):
     """The faults of a schema and of those within it."""
-    if isinstance(schema, bool):
-        return
-    try:
-        jsonschema.Draft202012Validator.check_schema(schema)
-    except jsonschema.SchemaError as fault:
-        yield f"{at}: this is no schema of Draft 2020-12: {fault.message}"
-        return
     stack = [(at, schema)]
     while stack:
         at, it = stack.pop()
-        if isinstance(it, dict):
-            yield from (f"{at}: the keyword '{word}' is not known" for word in it if word not in KEYWORDS and not word.startswith("x-"))
-            stack += [(f"{at}/{path}", inner) for path, inner in inner_schemas(it)]
+        if not isinstance(it, dict):
+            yield f"{at}: this is no schema of OpenAPI 3.0"
+            continue
+        yield from (f"{at}: the keyword '{word}' is not known" for word in it if word not in KEYWORDS)
+        if "$ref" in it and len(it) > 1:
+            yield f"{at}: what stands beside a reference does not count"
+        if NOT_REGULAR.search(it.get("pattern", "")):
+            yield f"{at}: the pattern is not regular"
+        if "x-form" in it:
+            yield from form_faults(f"{at}/x-form", it["x-form"])
+        stack += [(f"{at}/{path}", inner) for path, inner in inner_schemas(it)]
+
+
+def form_faults(at, form):
+    try:
+        jsonschema.Draft202012Validator.check_schema(form)
+    except jsonschema.SchemaError as fault:
+        yield f"{at}: this is no schema of Draft 2020-12: {fault.message}"
 
 
 def operation_faults(described):
@@ -116,18 +127,30 @@ def operation_faults(described):
             yield f"{method} {path}: its parameters and its path name different things"
         if len({(given["name"].lower(), given["in"]) for given in parameters if given}) < len(parameters):
             yield f"{method} {path}: a parameter is there twice, or is missing"
+        names = {given["name"].lower() for given in parameters if given and given["in"] == "header"}
+        yield from (f"{method} {path}: {name} is no parameter" for name in names & NO_PARAMETERS)
+        yield from (f"{method} {path}: it has no {key}" for key in ("summary", "description") if not it.get(key))
         yield from (f"{method} {path}: the tag '{tag}' is not declared" for tag in it.get("tags", ()) if tag not in tags)
+
+
+def form_of_openapi(described):
+    """What is not in the form of OpenAPI 3.0."""
+    if not os.path.exists(FORM):
+        print("the form of OpenAPI was not checked: the Debian package openapi-specification is missing")
+        return []
+    with open(FORM) as file:
+        errors = jsonschema.Draft4Validator(json.load(file)).iter_errors(described)
+    return [f"{'/'.join(map(str, ['#', *it.absolute_path]))}: {it.message[:200]}" for it in errors]
 
 
 def faults_of(path):
     """What is wrong with the description at a path, and how many schemas it has."""
-    described, form = read_yaml(path), read_yaml(os.path.join(os.path.dirname(path), FORM))
-    jsonschema.Draft202012Validator.check_schema(form)
-    errors = jsonschema.Draft202012Validator(form).iter_errors(described)
-    faults = [f"{'/'.join(map(str, ['#', *it.absolute_path]))}: {it.message[:200]}" for it in errors]
+    described = read_yaml(path)
+    faults = form_of_openapi(described)
     faults += [f"{at}: nothing is at {it}" for at, it in references_of(described) if resolved(described, it) is None]
-    schemas = list(schemas_of(described))
+    schemas, named = list(schemas_of(described)), described["components"]["schemas"]
     faults += [fault for at, schema in schemas for fault in schema_faults(at, schema)]
     used = {it for _, it in references_of(described)}
-    faults += [f"{at}: nothing refers to it" for at, _ in schemas if at.startswith("#/components/schemas/") and at not in used]
+    faults += [f"#/components/schemas/{name}: nothing refers to it" for name in named if f"#/components/schemas/{name}" not in used]
+    faults += [f"#/components/schemas/{name}: it has no {key}" for name, it in named.items() for key in ("description", "example") if key not in it]
     return faults + list(operation_faults(described)), len(schemas)

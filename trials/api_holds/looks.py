@@ -13,6 +13,7 @@ import tempfile
 from shared import served
 from shared.served import request
 from shared.stand_plan import Airport, compact
+from api_holds.day import steps_of
 from api_holds.draws import Draws
 from api_holds.texts import read_request, replies_in, requests_in
 from journal_bytes import journal_of, message_of, on_block_of, visit_of
@@ -27,10 +28,10 @@ PATIENCE = 60
 
 
 class Looks:
-    """Compares requests and replies with a description, and counts them."""
+    """Compares requests and replies with a description, as it means them exactly and as tools read it, and counts them."""
 
-    def __init__(self, description):
-        self.description, self.faults, self.requests, self.forbidden = description, [], 0, 0
+    def __init__(self, description, as_written):
+        self.description, self.as_written, self.faults, self.requests, self.forbidden = description, as_written, [], 0, 0
 
     def look(self, name, asked, reply):
         """A request and the reply that came to it."""
@@ -41,7 +42,7 @@ class Looks:
         if word != wanted:
             self.faults.append(f"{name}: {shown(asked)} was answered {reply.code} {reply.body[:100]!r}, and the description "
                                f"{'allows it' if wanted is None else 'forbids it with ' + wanted}")
-        elif fault := self.description.reply_fault(asked, reply):
+        elif fault := self.description.reply_fault(asked, reply) or self.as_written.tools_fault(asked, reply):
             self.faults.append(f"{name}: {shown(asked)} was answered {reply.code} {reply.body[:100]!r}: {fault}")
 
     def look_at(self, name, stream, output, whole=True):
@@ -125,6 +126,16 @@ def try_session(looks, program, name):
             if words[:1] == ["desk"] and ran.stdout.startswith(b"HTTP/"):
                 looks.look_at(f"session {name}, step {number}", stream, ran.stdout, whole=False)
             number += 1
+
+
+def try_examples(looks, program, room):
+    """The examples of the description in their order: each reply is the one that stands there."""
+    files, steps = served.files_of("demo"), list(steps_of(looks.description))
+    journal, stream = made(program, files, os.path.join(room, "examples")), b"".join(sent for _, sent, _ in steps)
+    replies = looks.look_at("the examples", stream, desk(program, files, journal, stream))
+    for (step, _, wanted), reply in zip(steps, replies):
+        if (reply.code, reply.body.decode()) != wanted:
+            looks.faults.append(f"the example {step}: {reply.code} {reply.body[:300]!r} came, and not {wanted}")
 
 
 # Heads that are refused
@@ -284,5 +295,5 @@ def try_all(looks, program, count, seed):
         try_drawn(looks, program, seed, number, min(each, count - number * each))
     print(f"seed {seed}: {looks.requests - before[0]} drawn requests, {looks.forbidden - before[1]} of them faulty", flush=True)
     with tempfile.TemporaryDirectory(dir=served.IN_MEMORY) as room:
-        for trial in (try_heads, try_full, try_failing_disk, try_lack_of_memory):
+        for trial in (try_examples, try_heads, try_full, try_failing_disk, try_lack_of_memory):
             trial(looks, program, room)
