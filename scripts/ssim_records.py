@@ -222,7 +222,7 @@ class Clock:
         if said in shown:
             return said, ""
         if len(shown) != 1:
-            raise Fault(f"{told:%H:%M} local time is {'there twice' if shown else 'not there'} on {short(told)}")
+            raise Fault(f"has a local time that is {'there twice' if shown else 'not there'}: {told:%H:%M}")
         return shown[0], f"the airport's clock is {hours(told - shown[0])} ahead of UTC, and not {hours(told - said)} as the record says: the clock counts"
 
     def local(self, utc):
