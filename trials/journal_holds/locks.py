@@ -1,4 +1,4 @@
-"""Two processes on one journal, and a journal that its reader may not write."""
+"""Two processes on one journal, a journal that something else writes over, and one that its reader may not write."""
 
 import fcntl
 import os
@@ -8,9 +8,11 @@ import sys
 
 from shared import served
 from shared.served import request
-from journal_holds.journals import VISIT, bytes_of, journal, make_season, ran, reading, words_on
+from journal_holds.journals import VISIT, bytes_of, journal, make_season, ran, reading, words_on, write
 
 TAKEN = "another process has this journal; chart, export and propose can be given a copy"
+SHORTER = "the file is shorter than what was synced, so something else has written it"
+LOST = "the journal is lost to this process, which has to be ended and started again"
 # The user who owns nothing.
 NOBODY = 65534
 
@@ -72,6 +74,34 @@ def beside_a_desk(program):
             desk.stdin.close()
             assert b'{"version":2,"visit":2}' in desk.stdout.read()
             assert desk.wait(served.PATIENCE) == 0
+
+
+def written_over(program):
+    """An earlier copy put over the journal of a server has each later command refused, and what was copied is found by the next start; without
+    one a command after a refused one is accepted."""
+    with journal(program) as server:
+        server.connections = served.MOST_CONNECTIONS
+        server.start()
+        with server.link() as link:
+            assert link.ask(request("POST", "/visits", VISIT)).version == 1
+            old = bytes_of(server.copy())
+            for number in (2, 3):
+                assert link.ask(request("POST", "/visits", VISIT.replace(b"V1", b"V%d" % number))).version == number
+            whole = bytes_of(server.copy())
+            write(server.journal, old)
+            for number in (4, 5):
+                assert link.ask(request("POST", "/visits", VISIT.replace(b"V1", b"V%d" % number))).code == 503
+            assert bytes_of(server.journal) == old, "the copy was changed"
+            write(server.journal, whole)
+            assert link.ask(request("POST", "/visits", VISIT.replace(b"V1", b"V6"))).version == 4
+            write(server.journal, old)
+            assert link.ask(request("POST", "/visits", VISIT.replace(b"V1", b"V7"))).code == 503
+        server.kill()
+        told = [line for line in server.said()[1].decode().splitlines() if SHORTER in line]
+        assert told == [f"apron: {server.journal}: {SHORTER}; {LOST}"] * 2, told
+        server.start()
+        with server.link() as link:
+            assert link.ask(request("GET", "/version")).version == 1
 
 
 def readers(program):

@@ -24,7 +24,7 @@ def ends(serving):
         output, errors = server.said()
         assert output == b"" and errors.decode().splitlines() == [
             f"apron: listening at {server.host}:{server.port}, workers: 2, journal: {server.journal}",
-            "apron: limits of time: 900 s between requests, 30 s within one, 600 s for a whole one, 60 s for a reply that is not taken",
+            "apron: limits of time: 900 s between requests, 30 s within one, 600 s for a whole one, 60 s for a whole reply",
             f"apron: {server.journal} is open, and desks are served",
             "apron: ended with status 0: each worker has had its connections"], errors
 

@@ -34,11 +34,12 @@ class Unit(threading.Thread):
     """What apron-standby.service does on a host: it waits for the journal, runs the server under the watchdog, and begins again. If it does not
     wait, the server itself tries again and again to get the journal."""
 
-    def __init__(self, hosts, host, program, journal, waits=True, is_watched=True):
+    def __init__(self, hosts, host, program, journal, waits=True, is_watched=True, writes_back=True):
         super().__init__(daemon=True)
         self.hosts, self.host, self.over, self.ends, self.process = hosts, host, False, collections.Counter(), None
         wait = [[os.path.join(SCRIPTS, "await-journal"), journal]] if waits else []
         serve = [program, "serve", *FILES, "1000000", f"{NET[host]}:{PORT}", str(WORKERS), journal]
+        self.writes_back = "1" if writes_back else "0"
         self.is_watched, self.steps = is_watched, [*wait, [os.path.join(SCRIPTS, "watchdog"), journal, *serve] if is_watched else serve]
         self.start()
 
@@ -47,7 +48,7 @@ class Unit(threading.Thread):
             while not self.over:
                 for step in self.steps:
                     self.process = subprocess.Popen([*self.hosts.inside(self.host), *step], stdin=subprocess.DEVNULL, stdout=errors, stderr=errors,
-                                                    start_new_session=True)
+                                                    start_new_session=True, env=os.environ | {"APRON_WRITE_BACK": self.writes_back})
                     status = self.process.wait()
                     if step is self.steps[-1]:
                         self.ends[status] += 1

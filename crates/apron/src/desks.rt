@@ -4,17 +4,19 @@ ghost use Rattle.std.specs.Prelude.{◌≡◌, IfOk, IfSome, is_some, length};
 ghost use Rattle.apron_run.specs.Words.{is_number, value_of};
 ghost use Rattle.apron_serve.specs.Orders.{most_listeners, most_screens};
 
+use crate::no_disk::NoDisk;
 use crate::opening::{BoundAddress, ListenAddress, Opening, Peers};
-use crate::reporting_desks::ReportingDesks;
+use crate::reporting_desks::{ReportingDesks, ReportingTcpDesks};
 use crate::time_limits::time_limits;
 use crate::unclear::tell_unclear;
+use crate::write_back::is_written_back;
 use apron_base::{Memory, Sink, Word};
 use apron_run::{Status, is_plain_number, plain_number};
 use apron_serve::{MAX_LISTENERS, MAX_SCREENS, connections_of, serve_all};
+use journal_disk::Disk;
 use std::alloc::Global;
 use std::io;
 use std::net::{Net, TcpListener, TcpStream};
-use std::rt::Env;
 use std::sync::Wait;
 use std::thread::Threads;
 use system_files::{FileDisk, FileShelf, report_meaning};
@@ -32,38 +34,30 @@ pub(crate) fn are_asked(words: &[Word]) -> bool {
 /// lock no address is taken. A line about a fault goes to the sink. Standard error says where it
 /// listens once the journal is open, and how it ended. `threads` is the runtime too, as the handle
 /// by which workers start and wait.
-pub(crate) fn serve_words<T: Wait + Threads + Sync, W: Sink>(
+pub(crate) fn serve_words<'a, T: Wait + Threads + Sync, W: Sink>(
     threads: &T,
-    rt: &HostRuntime,
-    words: &[Word],
+    rt: &'a HostRuntime,
+    words: &'a [Word],
     watches: &Watches<Shown, Shown>,
     sink: &mut W,
 ) -> u8 {
     let Some(order) = order_in(words) else {
         return Status::Usage.code();
     };
+    let Some(limits) = time_limits(rt) else {
+        return Status::Usage.code();
+    };
     let alloc: Global = rt.alloc();
-    let disk = FileDisk::open(rt, order.journal);
-    let is_locked = disk.is_open();
-    let Ok((is_bound, listeners)) = listeners_of(rt, alloc, order, is_locked) else {
+    let mut disk = FileDisk::open(rt, rt, order.journal);
+    let to_bind = if disk.is_open() { Some(limits) } else { None };
+    let Ok((is_bound, listeners)) = listeners_of(rt, alloc, order, to_bind) else {
         return Status::Memory.code();
     };
-    let Listeners {
-        mut desks,
-        mut screens,
-    } = listeners;
-    let mut shelf = FileShelf::new(rt);
-    let (status, _disk) = serve_all(
-        threads,
-        alloc,
-        order.words,
-        watches,
-        &mut shelf,
-        desks.as_mut_slice(),
-        screens.as_mut_slice(),
-        sink,
-        disk,
-    );
+    let status = match is_written_back(rt, &mut disk) {
+        Ok(true) => serve_on(threads, rt, order, watches, listeners, sink, disk),
+        Ok(false) => serve_on(threads, rt, order, watches, listeners, sink, NoDisk::new()),
+        Err(Memory) => return Status::Memory.code(),
+    };
     if status == Status::Usage.code() {
         tell_unclear(rt, words);
     }
@@ -73,6 +67,35 @@ pub(crate) fn serve_words<T: Wait + Threads + Sync, W: Sink>(
         // If standard error fails too, only the status says it.
         let _ = eprintln!(rt; "apron: ended with status {status}: {why}");
     }
+    status
+}
+
+// Serves the desks and the screens of these listeners on the journal of the disk.
+fn serve_on<T: Wait + Threads + Sync, W: Sink, D: Disk + Drop + Send>(
+    threads: &T,
+    rt: &HostRuntime,
+    order: ServeWords<'_>,
+    watches: &Watches<Shown, Shown>,
+    listeners: Listeners<'_, HostRuntime>,
+    sink: &mut W,
+    disk: D,
+) -> u8 {
+    let Listeners {
+        mut desks,
+        mut screens,
+    } = listeners;
+    let mut shelf = FileShelf::new(rt);
+    let (status, _disk) = serve_all(
+        threads,
+        rt.alloc(),
+        order.words,
+        watches,
+        &mut shelf,
+        desks.as_mut_slice(),
+        screens.as_mut_slice(),
+        sink,
+        disk,
+    );
     status
 }
 
@@ -185,26 +208,22 @@ pub(crate) fn screens_of(word: &Word) -> Option<u32>
 // A listener for each worker of desks, and one for each screen.
 #[derive(Drop)]
 struct Listeners<'a, R> {
-    desks: Vec<ReportingDesks<'a, R>>,
-    screens: Vec<ReportingDesks<'a, R>>,
+    desks: Vec<ReportingTcpDesks<'a, R>>,
+    screens: Vec<ReportingTcpDesks<'a, R>>,
 }
 
 // The listeners that the words order, and whether they have their addresses. If one can't be had,
 // standard error says which and why; then, and if none is to be taken, each accept fails.
-fn listeners_of<
-    'a,
-    R: Eprint + Env + AllocGlobal + Net<Listener = TcpListener, Stream = TcpStream>,
->(
+fn listeners_of<'a, R: Eprint + AllocGlobal + Net<Listener = TcpListener, Stream = TcpStream>>(
     rt: &'a R,
     alloc: Global,
     order: ServeWords<'a>,
-    is_to_bind: bool,
+    to_bind: Option<TimeLimits>,
 ) -> Result<(bool, Listeners<'a, R>), Memory> {
-    if is_to_bind {
-        let limits = time_limits(rt);
-        if let Some(listeners) = bound_listeners(rt, alloc, order, limits)? {
-            return Ok((true, listeners));
-        }
+    if let Some(limits) = to_bind
+        && let Some(listeners) = bound_listeners(rt, alloc, order, limits)?
+    {
+        return Ok((true, listeners));
     }
     let nowhere = TcpDesks::nowhere();
     let desks = all_beside(rt, alloc, order.desks, &nowhere, None)?;
@@ -278,7 +297,7 @@ fn bound_at<'a, R>(at: ListenAddress<'a>, first: &TcpDesks<'a, R>) -> BoundAddre
 }
 
 // Whether the system gave a listener for each of these. If not, standard error says why.
-fn are_listening<R: Eprint>(rt: &R, address: &str, listeners: &[ReportingDesks<'_, R>]) -> bool {
+fn are_listening<R: Eprint>(rt: &R, address: &str, listeners: &[ReportingTcpDesks<'_, R>]) -> bool {
     match listeners.iter().find_map(ReportingDesks::cause) {
         Some(cause) => {
             report_meaning(rt, address, &cause, meaning_of(&cause));
@@ -318,7 +337,7 @@ fn all_beside<'a, R: Eprint>(
     at: ListenAddress<'a>,
     first: &TcpDesks<'a, R>,
     opening: Option<Opening<'a>>,
-) -> Result<Vec<ReportingDesks<'a, R>>, Memory>
+) -> Result<Vec<ReportingTcpDesks<'a, R>>, Memory>
     ensures as_many { IfOk result (λ listeners. length listeners.items ≡ at.entry.listeners) }
 {
     let mut listeners = Vec::new(alloc);

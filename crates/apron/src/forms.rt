@@ -8,7 +8,10 @@ pub(crate) enum JournalUse {
     None,
     Made,
     Read,
-    Written,
+    /// Entries are appended to it.
+    Appended,
+    /// It is upgraded.
+    Upgraded,
     /// Desks are served on it.
     Served,
 }
@@ -45,7 +48,7 @@ pub(crate) const FORMS: [Form; 12] = [
         wanted: "AIRPORT TYPES JOURNAL",
         does: "answers the HTTP requests of standard input on standard output, and keeps what it accepts in the journal",
         counts: &[3],
-        journal: JournalUse::Written,
+        journal: JournalUse::Appended,
     },
     Form {
         first: "serve",
@@ -66,7 +69,7 @@ pub(crate) const FORMS: [Form; 12] = [
         wanted: "AIRPORT TYPES SEASON JOURNAL",
         does: "adds the visits of a season file to the plan; what is there already is skipped",
         counts: &[4],
-        journal: JournalUse::Written,
+        journal: JournalUse::Appended,
     },
     Form {
         first: "export",
@@ -87,7 +90,7 @@ pub(crate) const FORMS: [Form; 12] = [
         wanted: "AIRPORT TYPES JOURNAL",
         does: "makes a journal of format 1 one of format 2",
         counts: &[3],
-        journal: JournalUse::Written,
+        journal: JournalUse::Upgraded,
     },
     Form {
         first: "check",

@@ -13,6 +13,7 @@ mod reporting_desks;
 mod time_limits;
 mod unclear;
 mod watches;
+mod write_back;
 
 use apron_base::{ListSink, Memory, ReaderSource, Word, WriterSink};
 use apron_run::{Status, run_with};
@@ -31,6 +32,7 @@ use std::{env, io};
 use system_files::{FileDisk, FileShelf, ReportingStream, report_meaning};
 use watch_list::{Shown, Watches};
 use watches::all_and_high;
+use write_back::is_written_back;
 
 fn main(rt: HostRuntime) -> ExitCode {
     // Kept to the end, so that no file or connection gets the number of a standard stream that was
@@ -107,23 +109,43 @@ fn run_program(rt: &HostRuntime, words: &[Word], watches: &Watches<Shown, Shown>
 
 // Words that have a journal have its path last. Others get no disk, and so does an empty list of
 // words, which stands for words that are too few or too many.
-fn run_with_journal(
-    rt: &HostRuntime,
-    words: &[Word],
+fn run_with_journal<'a>(
+    rt: &'a HostRuntime,
+    words: &'a [Word],
     watches: &Watches<Shown, Shown>,
     front: &Cell<Front>,
 ) -> u8 {
     match (journal_use(words), words.split_last()) {
         (Some(JournalUse::None), _) => run_on(rt, words, watches, NoDisk::new(), front),
         (Some(JournalUse::Made), Some((path, asked))) => {
-            run_on(rt, asked, watches, FileDisk::make(rt, path.text()), front)
+            run_on(
+                rt,
+                asked,
+                watches,
+                FileDisk::make(rt, rt, path.text()),
+                front,
+            )
         }
         (Some(JournalUse::Read), Some((path, asked))) => {
-            let disk = FileDisk::open_to_read(rt, path.text());
+            let disk = FileDisk::open_to_read(rt, rt, path.text());
             run_on(rt, asked, watches, disk, front)
         }
-        (Some(JournalUse::Written), Some((path, asked))) => {
-            run_on(rt, asked, watches, FileDisk::open(rt, path.text()), front)
+        (Some(JournalUse::Appended), Some((path, asked))) => {
+            let mut disk = FileDisk::open(rt, rt, path.text());
+            match is_written_back(rt, &mut disk) {
+                Ok(true) => run_on(rt, asked, watches, disk, front),
+                Ok(false) => run_on(rt, asked, watches, NoDisk::new(), front),
+                Err(Memory) => Status::Memory.code(),
+            }
+        }
+        (Some(JournalUse::Upgraded), Some((path, asked))) => {
+            run_on(
+                rt,
+                asked,
+                watches,
+                FileDisk::open(rt, rt, path.text()),
+                front,
+            )
         }
         _ => run_on(rt, &[], watches, NoDisk::new(), front),
     }

@@ -2,22 +2,24 @@
 ghost use Rattle.std.specs.Prelude.{◌≡◌};
 
 use crate::opening::Opening;
-use apron_base::{Failed, Listener, Outcome, ReaderSource, WriterSink};
+use apron_base::{Failed, Listener, Outcome};
 use std::io;
 use std::marker::Model;
 use std::sync::Wait;
-use std::time::Clock;
 use system_files::report_cause;
-use tcp_desks::{Reporter, TcpDesks, TimedReader, TimedWriter};
+use tcp_desks::{Doorway, DoorwayDesks, Entrance, Reporter};
 
-/// Desks over TCP. Standard error says why an accept failed, and while none can succeed, that it is
-/// tried again. Before the first accept of those that have the server's opening, it says where the
-/// server listens and that the journal is open. Contracts see the desks.
+/// Desks over TCP, of which standard error tells.
+pub(crate) type ReportingTcpDesks<'a, R> = ReportingDesks<'a, R, Entrance<'a, R>>;
+
+/// Desks at a doorway. Standard error says why an accept failed, and while none can succeed, that
+/// it is tried again. Before the first accept of those that have the server's opening, it says
+/// where the server listens and that the journal is open. Contracts see the desks.
 #[derive(Drop)]
-pub(crate) struct ReportingDesks<'a, R> {
+pub(crate) struct ReportingDesks<'a, R, D> {
     notices: Notices<'a, R>,
     opening: Option<Opening<'a>>,
-    desks: TcpDesks<'a, R>,
+    desks: DoorwayDesks<D>,
 }
 
 // What standard error says of accepts at an address.
@@ -44,23 +46,25 @@ impl<'a, R: Eprint> Reporter for Notices<'a, R> {
     }
 }
 
-impl<'a, R> Model for ReportingDesks<'a, R> {
+impl<'a, R, D> Model for ReportingDesks<'a, R, D> {
     ghost use Rattle.tcp_desks.specs.Desks.{DesksState};
 
-    ghost Value = { DesksState };
+    ghost Value = { DesksState D };
 
     ghost view = { λ d. d.desks };
 }
 
-impl<'a, R: Eprint> ReportingDesks<'a, R> {
+impl<'a, R: Eprint, D> ReportingDesks<'a, R, D> {
     /// The desks that come to this address. They say that the server is open if they have its
     /// opening.
     pub(crate) fn new(
         rt: &'a R,
         address: &'a str,
         opening: Option<Opening<'a>>,
-        desks: TcpDesks<'a, R>,
-    ) -> Self {
+        desks: DoorwayDesks<D>,
+    ) -> Self
+        ensures is { result ≡ desks }
+    {
         ReportingDesks {
             notices: Notices { rt, address },
             opening,
@@ -89,14 +93,14 @@ impl<'a, R: Eprint> ReportingDesks<'a, R> {
     }
 }
 
-impl<'a, R: Eprint + Clock> Listener for ReportingDesks<'a, R> {
-    ghost use Rattle.tcp_desks.specs.Desks.{tcp_listener_state};
+impl<'a, R: Eprint, D: Doorway> Listener for ReportingDesks<'a, R, D> {
+    ghost use Rattle.tcp_desks.specs.Desks.{desks_listener_state};
 
-    type In = ReaderSource<TimedReader<'a, R>>;
+    type In = D::In;
 
-    type Out = WriterSink<TimedWriter>;
+    type Out = D::Out;
 
-    ghost state = { tcp_listener_state };
+    ghost state = { desks_listener_state D.to_come };
 
     fn accept<W: Wait>(&mut self, rt: &W) -> Result<(Self::In, Self::Out), Failed> {
         self.tell_open();

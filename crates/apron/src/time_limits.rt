@@ -7,24 +7,30 @@ use std::rt::Env;
 use tcp_desks::{MOST_SECONDS, TimeLimits};
 
 /// The limits that the environment sets, and the usual ones for those that it does not. Standard
-/// error says which is not understood; the usual ones are then taken.
-pub(crate) fn time_limits<R: Env + AllocGlobal + Eprint>(rt: &R) -> TimeLimits {
+/// error says which is not understood; the usual one is then taken. `None` if the limit within a
+/// request is not below that between requests, which standard error then says.
+pub(crate) fn time_limits<R: Env + AllocGlobal + Eprint>(rt: &R) -> Option<TimeLimits> {
     let usual = TimeLimits::USUAL;
     let limits = TimeLimits {
-        idle: seconds_at(rt, "APRON_IDLE_SECONDS", usual.idle),
-        stall: seconds_at(rt, "APRON_STALL_SECONDS", usual.stall),
+        idle: seconds_at(rt, IDLE, usual.idle),
+        stall: seconds_at(rt, STALL, usual.stall),
         request: seconds_at(rt, "APRON_REQUEST_SECONDS", usual.request),
         reply: seconds_at(rt, "APRON_REPLY_SECONDS", usual.reply),
     };
     if limits.are_limits() {
-        return limits;
+        return Some(limits);
     }
-    // If standard error fails too, the line at the start says which are taken.
+    let TimeLimits { idle, stall, .. } = limits;
+    // If standard error fails too, only the status says that something is wrong.
     let _ = eprintln!(rt;
-        "apron: APRON_STALL_SECONDS is not below APRON_IDLE_SECONDS; the usual limits are taken"
+        "apron: {IDLE} is {idle}, and has to be more than {STALL}, which is {stall}; set both; no desk was served"
     );
-    usual
+    None
 }
+
+const IDLE: &str = "APRON_IDLE_SECONDS";
+
+const STALL: &str = "APRON_STALL_SECONDS";
 
 // The seconds that the variable of this name has; the usual ones if there is none, or if it is not
 // understood.

@@ -9,6 +9,7 @@ use Rattle.journal_disk.specs.Faults.{InitFails}
 use Rattle.journal_disk.specs.Header.{empty_journal}
 use Rattle.journal_disk.specs.declared.fault.JournalFault.{JournalFault}
 use Rattle.journal_disk.specs.declared.fault.JournalFault.TheVariants as journal
+use Rattle.journal_disk.proofs.Tells.{only_none}
 use Rattle.apron_check.specs.declared.files.AirportFiles.{AirportFiles}
 use Rattle.apron_run.specs.Init.{AtInit, IsJournalMade}
 use Rattle.apron_run.specs.World.{OnDisk, World, run_world}
@@ -54,6 +55,6 @@ pub is_refused : (files : AirportFiles) (shelf : ShelfState) (source : SourceSta
     → AtInit files (run_world shelf source sink before) (run_world shelf source sink after) (Unusable (Journal fault))
 is_refused files shelf source sink before after journal.DiskFault fails spares =
     disk_used (run_world shelf source sink before) after (if_told before.contents (λ bytes. length bytes ≢ 0 → Stays before after) spares, fails)
-is_refused files shelf source sink before after journal.NotEmpty (told, stays, counts) spares =
-    disk_used (run_world shelf source sink before) after (if_told before.contents (λ bytes. length bytes ≢ 0) told, record { stays = stays; faults = counts })
+is_refused files shelf source sink before after journal.NotEmpty (told, stays, idle, counts) spares =
+    disk_used (run_world shelf source sink before) after (if_told before.contents (λ bytes. length bytes ≢ 0) told, record { stays = stays; syncs = only_none before after idle; faults = counts })
 is_refused files shelf source sink before after fault fails spares = absurd fails

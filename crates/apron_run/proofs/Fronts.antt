@@ -13,6 +13,7 @@ use Rattle.history_core.specs.Board.{IsKeeperOf, entry_texts}
 use Rattle.journal_disk.specs.Disk.{Between, Continues, DiskState, IfExposed, IsDurable, Passes, Stays}
 use Rattle.journal_disk.specs.Extent.{AppendsSafely, Extent, HasOpened, IsCrashSafe, StandsFor, entries_within, entry_at_risk, keeper_of}
 use Rattle.journal_disk.specs.Header.{opening_of}
+use Rattle.journal_disk.proofs.Tells.{only_none}
 use Rattle.apron_run.specs.Journal.{IsOf}
 use Rattle.apron_run.specs.Survival.{EachImageFrom, LeavesFronts, RisksIfFailed, Survives}
 use Rattle.apron_run.specs.World.{Unwritten}
@@ -31,7 +32,7 @@ stays_same disk = record {
 
 -- and no call fails then
 pub unwritten_same : (disk : DiskState) → Unwritten disk disk
-unwritten_same disk = record { stays = stays_same disk; faults = refl }
+unwritten_same disk = record { stays = stays_same disk; syncs = only_none disk disk refl; faults = refl }
 
 -- time goes on twice
 passes_both : (a b c : DiskState) → Passes a b → Passes b c → Passes a c

@@ -39,6 +39,7 @@ use Rattle.apron_run.specs.Desk.{ServesDesk, session_state, new_port}
 use Rattle.apron_run.specs.Journal.{IsOf, KeepsHistory, NotOpened, OpensTo, WhyUnusable}
 use Rattle.apron_run.specs.Opened.{IsOpened}
 use Rattle.apron_run.specs.World.{Unwritten, RunWorld}
+use Rattle.journal_disk.proofs.Tells.{only_both}
 use Rattle.apron_run.specs.Survival.{Survives}
 use Rattle.apron_run.specs.declared.unusable.Unusable.{Unusable}
 use Rattle.apron_run.specs.declared.unusable.Unusable.TheVariants.{Journal, Entries}
@@ -161,7 +162,7 @@ module _ (files : AirportFiles) (begun before after : DiskState) (same : Unwritt
       (texts, told_from (λ bytes. opening_of files.digests bytes ≡ Ok texts) opening, counts_from false counts, cannot)
 
   pub unopened_from : (why : Unusable) → NotOpened files before after why → NotOpened files begun after why
-  unopened_from why finds = record { stays = stays_both begun before after same.stays finds.stays; cause = why_from why finds.cause }
+  unopened_from why finds = record { stays = stays_both begun before after same.stays finds.stays; syncs = (let stays = same.stays in only_both begun before after same.syncs stays.contents finds.syncs); cause = why_from why finds.cause }
 
 -- the number of the call after a legal history is at most the last
 pub next_below : (low high : ℕ) (history : List Entry) → Rises call_of low high history → next_from low history ≤ high

@@ -6,7 +6,7 @@ use Rattle.std.proofs.lemmas.Slice.Eq.{bytes_eq-Decides}
 use Rattle.apron_base.specs.Counts.{Counts}
 use Rattle.history_core.specs.Board.{entry_texts}
 use Rattle.std.specs.Option.{option_map}
-use Rattle.journal_disk.specs.Disk.{Between, Continues, DiskState, IfExposed, IsSafe, Stays}
+use Rattle.journal_disk.specs.Disk.{Between, Continues, DiskState, IfExposed, IsSafe, OnlySyncs, Stays}
 use Rattle.journal_disk.specs.Entries.{records}
 use Rattle.journal_disk.specs.Faults.{OldOpenFails, OldTextFails}
 use Rattle.journal_disk.specs.Found.{disk_found, old_found}
@@ -39,13 +39,13 @@ old_header digests bytes old is =
     (bytes_eq-Decides (digests_in bytes) digests).0 (old_passed _ (has_magic bytes) (bytes_eq (digests_in bytes) digests) (is_new bytes) _ _ _ old is)
 
 -- a journal that was not opened
-pub not_opened : (files : AirportFiles) (before after : DiskState) (fault : JournalFault) → OldOpenFails files.digests before after fault → Stays before after
+pub not_opened : (files : AirportFiles) (before after : DiskState) (fault : JournalFault) → OldOpenFails files.digests before after fault → Stays before after → OnlySyncs before after
     → NotUpgraded files before after (Journal fault)
-not_opened files before after journal.DiskFault fails stays = (fails, inl stays)
-not_opened files before after journal.NotEmpty fails stays = absurd fails
-not_opened files before after journal.OldFormat fails stays = absurd fails
-not_opened files before after fault (counts, told) stays =
-    (record { stays = stays; faults = counts }, if_told before.contents (λ bytes. OldTextFails files.digests bytes fault) told)
+not_opened files before after journal.DiskFault fails stays syncs = (fails, inl (stays, syncs))
+not_opened files before after journal.NotEmpty fails stays syncs = absurd fails
+not_opened files before after journal.OldFormat fails stays syncs = absurd fails
+not_opened files before after fault (counts, told) stays syncs =
+    (record { stays = stays; syncs = syncs; faults = counts }, if_told before.contents (λ bytes. OldTextFails files.digests bytes fault) told)
 
 -- what is told after is made of what was told before
 told_as : (f : List ℕ → List ℕ) (before after : Option (List ℕ)) → Between (λ _ _. Unit {0}) before after → ((bytes now : List ℕ) → before ≡ Some bytes → after ≡ Some now → now ≡ f bytes)

@@ -8,7 +8,7 @@ use Rattle.entry_bytes.specs.Entries.{IsEntryOf}
 use Rattle.history_core.specs.Board.{entry_texts}
 use Rattle.history_core.specs.History.{IsLegal}
 use Rattle.history_core.specs.Opening.{CannotOpen}
-use Rattle.journal_disk.specs.Disk.{DiskState, Stays}
+use Rattle.journal_disk.specs.Disk.{DiskState, OnlySyncs, Stays}
 use Rattle.journal_disk.specs.Faults.{OpenFails}
 use Rattle.journal_disk.specs.Header.{digests_in, opening_of}
 use Rattle.apron_check.specs.declared.files.AirportFiles.{AirportFiles}
@@ -36,10 +36,11 @@ WhyUnusable files before after (Entries fault) =
     × Counts false before.faults after.faults
     × CannotOpen files.airport entries fault
 
--- no board was opened, and the disk reads as before
+-- no board was opened, the disk reads as before, and no write was done
 pub record NotOpened (files : AirportFiles) (before after : DiskState)
     (why : Unusable) : Type 0 where
   pub stays : Stays before after
+  pub syncs : OnlySyncs before after
   pub cause : WhyUnusable files before after why
 
 -- there is no journal of the files to work on, and nothing else was used

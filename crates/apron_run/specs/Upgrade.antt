@@ -4,7 +4,7 @@ use Rattle.std.specs.Option.{option_map}
 use Rattle.apron_base.specs.Counts.{Counts}
 use Rattle.desk_asks.specs.declared.asks.Entry.{Entry}
 use Rattle.history_core.specs.History.{IsLegal}
-use Rattle.journal_disk.specs.Disk.{DiskState, IfExposed, IsSafe, Stays}
+use Rattle.journal_disk.specs.Disk.{DiskState, IfExposed, IsSafe, OnlySyncs, Stays}
 use Rattle.journal_disk.specs.Entries.{records}
 use Rattle.journal_disk.specs.Faults.{OldTextFails}
 use Rattle.journal_disk.specs.Header.{old_opening_of, opening_of}
@@ -48,7 +48,7 @@ pub record HasUpgraded (files : AirportFiles) (before after : DiskState) (count 
 abbrev pub NotUpgraded : AirportFiles → DiskState → DiskState → Unusable → Type 0
 NotUpgraded files before after (Journal journal.DiskFault) =
     Counts true before.faults after.faults
-    × (Stays before after
+    × ((Stays before after × OnlySyncs before after)
     ⊎ ((old new : List (List ℕ)) × Converts files.airport old new
     × IfExposed before (λ bytes. old_opening_of files.digests bytes ≡ Ok (Some old))
     × LeavesEither old new before after))

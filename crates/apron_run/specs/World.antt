@@ -3,12 +3,13 @@ use Rattle.std.specs.Prelude.{◌≡◌, List, []}
 use Rattle.apron_base.specs.Ends.{SinkState, SourceState}
 use Rattle.apron_base.specs.Listener.{ListenerState}
 use Rattle.apron_base.specs.Shelf.{ShelfState}
-use Rattle.journal_disk.specs.Disk.{DiskState, Stays}
+use Rattle.journal_disk.specs.Disk.{DiskState, OnlySyncs, Stays}
 
 -- nothing was written on the disk: it reads as before, a crash leaves what it could leave before,
--- and no call of it has failed
+-- of writes and syncs only syncs were done, and no call of it has failed
 pub record Unwritten (before after : DiskState) : Type 0 where
   pub stays : Stays before after
+  pub syncs : OnlySyncs before after
   pub faults : after.faults ≡ before.faults
 
 -- what a call of the program meets or leaves: the shelf of files, the source of bytes, the listeners

@@ -6,7 +6,7 @@ ghost use Rattle.apron_run.specs.World.{Unwritten, run_world};
 
 use crate::End;
 use crate::files_journal::OfFiles;
-use crate::journal::{Access, close_board, open_board};
+use crate::journal::{close_board, open_board};
 use crate::same_disk::{Named, SameDisk};
 use crate::season::add_season;
 use apron_base::{Shelf, Word};
@@ -71,7 +71,7 @@ fn import_into<N: OfFiles, F: Shelf, D: Disk>(
         (run_world (F.state shelf.old) source sink N.begun)
         (run_world (F.state shelf.new) source sink (D.state result.1)) result.0 }
 {
-    let mut board = match open_board::<N, D>(alloc, files, Access::Appends, disk) {
+    let mut board = match open_board::<N, D>(alloc, files, disk) {
         Ok(board) => board,
         Err((why, disk)) => return (End::Unusable(why), disk),
     };

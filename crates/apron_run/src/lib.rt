@@ -29,7 +29,7 @@ mod words;
 
 pub use end::{End, ServeEnd, tell_end};
 pub use files_journal::{FilesJournal, OfFiles};
-pub use journal::{Access, close_board, open_board, open_watched};
+pub use journal::{close_board, open_board, open_watched};
 pub use laws::{ends_that_never_fail_tell_no_fault, second_imports_add_nothing};
 pub use program::{run, run_with};
 pub use season::MAX_SEASON;

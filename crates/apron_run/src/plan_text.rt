@@ -8,7 +8,7 @@ ghost use Rattle.apron_run.specs.World.{run_world};
 
 use crate::End;
 use crate::files_journal::OfFiles;
-use crate::journal::{Access, close_board, open_board};
+use crate::journal::{close_board, open_board};
 use crate::print::{Kind, Text};
 use crate::same_disk::{Named, SameDisk};
 use apron_base::{Keeper, Listed, Memory};
@@ -101,7 +101,7 @@ fn text_of_board<N: OfFiles, T: PlanText, D: Disk>(
         → AtPlan (T.answers asked.now) files.now (run_world shelf source sink (D.state disk))
         (run_world shelf source sink (D.state result.1)) result.0 }
 {
-    let board = match open_board::<N, D>(alloc, files, Access::Reads, disk) {
+    let board = match open_board::<N, D>(alloc, files, disk) {
         Ok(board) => board,
         Err((why, disk)) => return (End::Unusable(why), disk),
     };

@@ -9,7 +9,7 @@ use Rattle.history_core.specs.Board.{BoardHeld, machine_state}
 use Rattle.history_core.specs.History.{IsLegal}
 use Rattle.history_core.specs.Opening.{next_after}
 use Rattle.history_core.proofs.Legal.{legal_counted}
-use Rattle.journal_disk.specs.Disk.{DiskState, Stays}
+use Rattle.journal_disk.specs.Disk.{DiskState, OnlySyncs, Stays}
 use Rattle.desk_workers.specs.Crew.{ServesBoard, end_of}
 use Rattle.desk_workers.specs.Watched.{fed_sessions}
 use Rattle.screen_feed.specs.Screens.{WriterState}
@@ -119,7 +119,7 @@ desks_serve {E = E} service tells task files before after board hall met ends se
 -- there is no memory to serve at a board that was opened, and the disk reads as before
 pub turns_want_memory : {In Out K : Type 0} (service : Service In Out) (tells : K → KeeperState) (task : Task) (files : AirportFiles) (before : World In Out) (closed : DiskState)
     (board : BoardHeld K) → IsOpened tells files before.disk board
-    → Stays before.disk closed → closed.faults ≡ (tells board.keeper).faults
+    → Stays before.disk closed → OnlySyncs before.disk closed → closed.faults ≡ (tells board.keeper).faults
     → AtServe service task files before (record before { disk = closed }) ended.Memory
-turns_want_memory service tells task files before closed board opened stays counted =
-    (board.history, opened.opens, disk_used before closed (record { stays = stays; faults = counted ∙ opened.faults }))
+turns_want_memory service tells task files before closed board opened stays syncs counted =
+    (board.history, opened.opens, disk_used before closed (record { stays = stays; syncs = syncs; faults = counted ∙ opened.faults }))

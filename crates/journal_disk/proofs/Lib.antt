@@ -12,4 +12,4 @@ pub mod ReadTexts
 pub mod Writes
 pub mod Switching
 pub mod LawProofs
-pub mod Rereading
+pub mod WrittenBack

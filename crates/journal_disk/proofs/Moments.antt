@@ -1,7 +1,7 @@
 -- How a run of device calls goes on.
-use Rattle.std.proofs.Common.{◌≡◌, ℕ, List, subst, sym, arith, inl, inr}
+use Rattle.std.proofs.Common.{◌≡◌, ◌∙◌, ℕ, List, subst, sym, arith, inl, inr}
 use Rattle.std.proofs.lemmas.Bool.{cases_lt}
-use Rattle.journal_disk.specs.Disk.{DiskState, EachImage, EachImageSince, Goes, Passes, Same, Torn}
+use Rattle.journal_disk.specs.Disk.{DiskState, EachImage, EachImageSince, Goes, Passes, Same, Stays, Torn}
 use Rattle.journal_disk.specs.TornWrites.{torn_same}
 
 -- before the first call
@@ -90,4 +90,11 @@ pub goes_none : (Step : List ℕ → List ℕ → Type 0) (a : DiskState) → Go
 goes_none Step a = record {
   clock = record { later = omega arith; past = λ moment image early left. left; kept = λ moment image early left. left };
   since = λ moment image before now left. absurd (omega arith);
+}
+
+-- nothing changes, and then nothing again
+pub stays_both : (a b c : DiskState) → Stays a b → Stays b c → Stays a c
+stays_both a b c one two = record {
+  contents = two.contents ∙ one.contents;
+  crash = goes_both Same (λ x y z first second. second ∙ first) a b c one.crash two.crash;
 }

@@ -3,10 +3,9 @@ use Rattle.std.proofs.Common.{false, Result, Ok, Err, OnOk, ◌≡◌, ℕ, suc,
 use Rattle.std.proofs.lemmas.List.{append-nil, length-take-le, take-append-le, take_all, drop-append-le, length_push}
 use Rattle.std.specs.Prelude.{Some}
 use Rattle.journal_disk.specs.TornWrites.{some_same}
-use Rattle.journal_disk.specs.Disk.{DiskState, Goes, IfExposed, IsSafe, IsThere, Same, Torn, with_piece_at}
-use Rattle.journal_disk.specs.Calls.{CutShort, DeviceCall, Step, done_calls, done_of, failed_call, images_at, after_call, left_after, after_calls, left_by_crash, with_pieces, with_piece, piece_length, pieces_length, size_of, sizes_of}
+use Rattle.journal_disk.specs.Disk.{DiskState, DoneCall, Goes, IfExposed, IsSafe}
+use Rattle.journal_disk.specs.Calls.{DeviceCall, Step, done_calls, done_of, failed_call, images_at, after_call, left_after, after_calls, left_by_crash, with_pieces, with_piece, piece_length, pieces_length, size_of, sizes_of}
 use Rattle.journal_disk.specs.Calls.DeviceCall.{Idle, Write, Sync}
-use Rattle.journal_disk.proofs.Moments.{goes_like}
 use Rattle.journal_disk.specs.declared.memory_disk.DiskCall.{DiskCall}
 use Rattle.journal_disk.specs.declared.memory_disk.DiskCall.TheVariants.{Passed, Wrote, Synced}
 
@@ -114,17 +113,8 @@ pub done_calls-push : (calls : List DeviceCall) (call : DeviceCall) → done_cal
 done_calls-push [] call = append-nil (done_of call)
 done_calls-push (c ∷ calls) call = ap (λ ds. done_of c ++ ds) (done_calls-push calls call) ∙ sym (append_assoc (done_of c) (done_calls calls) (done_of call))
 
--- a write that is cut short is torn
-pub goes-torn : (at : ℕ) (piece : List ℕ) (before now : DiskState) → Goes (CutShort at piece) before now → Goes (Torn at (length piece)) before now
-goes-torn at piece before now goes = goes_like (CutShort at piece) (Torn at (length piece)) (λ x y cut. cut.torn) before now goes
-
--- and leaves the bytes that were there already
-pub goes-same : (at : ℕ) (piece bytes : List ℕ) (before now : DiskState) → before.contents ≡ Some bytes → Goes (CutShort at piece) before now → IsThere at piece before → Goes Same before now
-goes-same at piece bytes before now is goes there = record {
-  clock = goes.clock;
-  since = λ moment image late early left.
-      let from = goes.since moment image late early left in
-      let safe : from.0 ≡ bytes = (there bytes is).0 from.0 from.1 in
-      let same : with_piece_at at piece from.0 ≡ from.0 = subst (λ (b : List ℕ). with_piece_at at piece b ≡ b) (sym safe) (there bytes is).1 in
-      (from.0, from.1, from.2.same same);
-}
+-- a call that fails is not done
+pub failed-undone : (call : DiskCall) (piece : List ℕ) (done : List DoneCall) → done ++ done_of (with_piece (failed_call call) piece) ≡ done
+failed-undone Passed piece done = append-nil done
+failed-undone (Wrote at size is_done) piece done = append-nil done
+failed-undone Synced piece done = append-nil done

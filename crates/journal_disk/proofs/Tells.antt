@@ -1,10 +1,12 @@
 -- What is exposed before a call and after it.
-use Rattle.std.proofs.Common.{◌≡◌, ◌∙◌, ℕ, true, false, List, ◌++◌, Result, Ok, Err, OnOk, OnErr, IfErr, subst, refl, sym, ap, append_assoc}
+use Rattle.std.proofs.Common.{◌≡◌, ◌∙◌, ℕ, zero, suc, ◌+◌, true, false, List, [], ◌∷◌, ◌++◌, Result, Ok, Err, OnOk, OnErr, IfErr, subst, refl, sym, ap, arith, append_assoc}
 use Rattle.std.specs.Prelude.{IfSome, Option, Some, None}
 use Rattle.std.specs.Result.{IsErrAnd}
 use Rattle.std.specs.Option.{option_map}
 use Rattle.apron_base.specs.Counts.{Counts}
-use Rattle.journal_disk.specs.Disk.{Between, Continues, DiskState, DoneCall, Does, TellsAlike}
+use Rattle.std.proofs.lemmas.List.{append-nil}
+use Rattle.journal_disk.specs.Disk.{Between, Continues, DiskState, DoneCall, Does, OnlySyncs, TellsAlike, syncs}
+use Rattle.journal_disk.specs.Disk.DoneCall.{DoneSync}
 use Rattle.journal_disk.proofs.Moments.{passes_both}
 
 -- related in any way
@@ -86,3 +88,25 @@ if_some (Some x) f p = f x p
 pub told_same : (o : Option (List ℕ)) → Between Any o o
 told_same None = tt
 told_same (Some b) = tt
+
+-- no write is done by one sync, or by nothing
+pub only_synced : (a b : DiskState) → Does (DoneSync ∷ []) a b → OnlySyncs a b
+only_synced a b did bytes is = (1, did bytes is)
+
+pub only_none : (a b : DiskState) → b.done ≡ a.done → OnlySyncs a b
+only_none a b same bytes is = (0, same ∙ sym (append-nil a.done))
+
+syncs_both : (m n : ℕ) → syncs m ++ syncs n ≡ syncs (m + n)
+syncs_both zero n = let sum : n ≡ 0 + n = omega arith in ap syncs sum
+syncs_both (suc m) n = let sum : suc (m + n) ≡ suc m + n = omega arith in ap (λ (ds : List DoneCall). DoneSync ∷ ds) (syncs_both m n) ∙ ap syncs sum
+
+-- or none by some calls, and none by others
+pub only_both : (a b c : DiskState) → OnlySyncs a b → b.contents ≡ a.contents → OnlySyncs b c → OnlySyncs a c
+only_both a b c one same two bytes is =
+    let first = one bytes is in
+    let next = two bytes (same ∙ is) in
+    (first.0 + next.0, next.1 ∙ ap (λ (ds : List DoneCall). ds ++ syncs next.0) first.1 ∙ append_assoc a.done (syncs first.0) (syncs next.0) ∙ ap (λ (ds : List DoneCall). a.done ++ ds) (syncs_both first.0 next.0))
+
+pub only_err : {T E : Type 0} (a b c : DiskState) (r : Result T E) → OnlySyncs a b → b.contents ≡ a.contents → OnErr r (OnlySyncs b c) → OnErr r (OnlySyncs a c)
+only_err a b c (Ok x) one same two = tt
+only_err a b c (Err e) one same two = only_both a b c one same two

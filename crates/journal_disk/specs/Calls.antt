@@ -20,16 +20,11 @@ after_call (Write at piece done) bytes =
     if done && nat_le at (length bytes) then with_piece_at at piece bytes else bytes
 after_call _ bytes = bytes
 
--- after a write of this piece that was cut short; bytes that were there already stay
-pub record CutShort (at : ℕ) (piece old new : List ℕ) : Type 0 where
-  pub torn : Torn at (length piece) old new
-  pub same : with_piece_at at piece old ≡ old → new ≡ old
-
 -- what a crash may leave after a call on a disk that reads as these bytes
 abbrev pub left_after : DeviceCall → List ℕ → (List ℕ → Type 0) → List ℕ → Type 0
 left_after Idle bytes Left image = Left image
 left_after (Write at piece done) bytes Left image =
-    (from : List ℕ) × Left from × CutShort at piece from image
+    (from : List ℕ) × Left from × Torn at (length piece) from image
 left_after Sync bytes Left image = Left image × (image ≡ bytes)
 
 -- what a disk of these bytes reads as after many calls
@@ -50,7 +45,7 @@ images_at first calls moment image =
 
 -- what a call may do to an image
 abbrev pub Step : DeviceCall → List ℕ → List ℕ → Type 0
-Step (Write at piece done) = CutShort at piece
+Step (Write at piece done) = Torn at (length piece)
 Step _ = Same
 
 -- the write or the sync that a call is, if it was done

@@ -1,5 +1,5 @@
 -- Disks: what they read as, what a crash may leave, and what their calls do to both.
-use Rattle.std.specs.Prelude.{◌≡◌, ℕ, ◌+◌, ◌≤◌, ◌<◌, List, [], ◌∷◌, ◌++◌, length, take, drop, Option, Some, None}
+use Rattle.std.specs.Prelude.{◌≡◌, ℕ, zero, suc, ◌+◌, ◌≤◌, ◌<◌, List, [], ◌∷◌, ◌++◌, length, take, drop, Option, Some, None}
 
 -- a call that was done: a write of this many bytes at a place, or a sync
 pub data DoneCall : Type 0 where
@@ -74,14 +74,19 @@ IsSafe bytes disk = EachImage disk (λ image. image ≡ bytes)
 abbrev pub IsDurable : DiskState → DiskState → Type 0
 IsDurable before now = IfExposed before (λ bytes. IsSafe bytes now)
 
--- if the disk exposes what it reads as, this piece is at this place, and a crash leaves just that
-abbrev pub IsThere : ℕ → List ℕ → DiskState → Type 0
-IsThere at piece disk =
-    IfExposed disk (λ bytes. IsSafe bytes disk × (with_piece_at at piece bytes ≡ bytes))
-
 -- if the disk exposes what it reads as, these writes and syncs were done, and no others
 abbrev pub Does : List DoneCall → DiskState → DiskState → Type 0
 Does calls before now = IfExposed before (λ _. now.done ≡ before.done ++ calls)
+
+-- so many syncs
+abbrev pub syncs : ℕ → List DoneCall
+syncs zero = []
+syncs (suc number) = DoneSync ∷ syncs number
+
+-- if the disk exposes what it reads as, no write was done, but perhaps some syncs
+abbrev pub OnlySyncs : DiskState → DiskState → Type 0
+OnlySyncs before now =
+    IfExposed before (λ _. (number : ℕ) × (now.done ≡ before.done ++ syncs number))
 
 -- the calls that write this many bytes at a place, safely from a crash
 abbrev pub safe_write : ℕ → ℕ → List DoneCall

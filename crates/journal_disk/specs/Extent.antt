@@ -1,12 +1,11 @@
 -- How far a journal reaches on its disk: its entries, the entry at risk, and what a crash leaves.
-use Rattle.std.specs.Prelude.{◌≡◌, ◌⊎◌, ◌<◌, ◌≤◌, ◌+◌, ◌-◌, ◌*◌, ℕ, List, [], ◌∷◌, ◌++◌, length, take, drop, Bool, true, false, Option, None, Some, IfSome, Ok}
+use Rattle.std.specs.Prelude.{◌≡◌, ◌⊎◌, ◌<◌, ◌≤◌, ◌+◌, ◌*◌, ℕ, List, [], ◌∷◌, ◌++◌, length, take, drop, Bool, true, false, Option, None, Some, IfSome, Ok}
 use Rattle.std.specs.Option.{option_map, option_and_then}
 use Rattle.std.specs.Result.{result_unwrap_or}
 use Rattle.apron_base.specs.Histories.{Every}
 use Rattle.apron_base.specs.Keeper.{KeeperState, with_last}
 use Rattle.journal_disk.specs.Disk.{DiskState, DoneCall, EachImage, EachImageSince, IfExposed, safe_write}
-use Rattle.journal_disk.specs.Disk.DoneCall.{DoneSync}
-use Rattle.journal_disk.specs.Entries.{behind_gate, closed_gate, entries_of, last_record, records, IsEntry}
+use Rattle.journal_disk.specs.Entries.{behind_gate, closed_gate, entries_of, records, IsEntry}
 use Rattle.journal_disk.specs.Gates.{GateIs, mending_calls}
 use Rattle.journal_disk.specs.Header.{digests_in, opening_of}
 use Rattle.journal_disk.specs.Limits.{most_entries, most_bytes, most_first, most_record, record_frame}
@@ -91,12 +90,6 @@ abbrev pub AppendsSafely : Extent → DiskState → DiskState → List ℕ → T
 AppendsSafely extent before now appended =
     IfExposed before (λ bytes. EachImageSince before now (StandsFor extent bytes
     (λ entry. (entry ≡ appended) ⊎ (entry_at_risk extent before.contents ≡ Some entry))))
-
--- the writes and syncs by which a journal is opened to append to it: a sync before it is read, and
--- then its last record and the gate at this place after it, written safely
-abbrev pub opening_calls : ℕ → List (List ℕ) → List DoneCall
-opening_calls place entries =
-    DoneSync ∷ safe_write (place - last_record entries) (last_record entries + 1)
 
 -- the writes and syncs of an append: the gate is closed if it may have been opened; the entry with
 -- its length and a closed gate after it, and then the gate before it

@@ -13,6 +13,7 @@ InitFails before now DiskFault = Counts true before.faults now.faults
 InitFails before now NotEmpty =
     IfExposed before (λ bytes. length bytes ≢ 0)
     × Stays before now
+    × (now.done ≡ before.done)
     × Counts false before.faults now.faults
 InitFails before now _ = ⊥
 

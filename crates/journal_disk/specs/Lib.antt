@@ -11,5 +11,6 @@ pub mod Extent
 pub mod Opening
 pub mod Switch
 pub mod Found
+pub mod WriteBack
 pub mod Faults
 pub mod Laws

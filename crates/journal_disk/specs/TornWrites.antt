@@ -4,7 +4,7 @@ use Rattle.std.proofs.Common.{rules, ap, subst, arith, length-append, length-dro
 use Rattle.std.proofs.lemmas.List.{take_at, take_all, length-take-le, same_lists, places}
 use Rattle.std.proofs.lemmas.Bool.{cases_Bool}
 use Rattle.journal_disk.specs.Disk.{with_piece_at, Torn, IfExposed}
-use Rattle.journal_disk.specs.Calls.{CutShort, DeviceCall, after_call, left_after, after_calls, left_by_crash, images_at, disk_of, MemoryHeld}
+use Rattle.journal_disk.specs.Calls.{DeviceCall, after_call, left_after, after_calls, left_by_crash, images_at, disk_of, MemoryHeld}
 use Rattle.journal_disk.specs.Calls.DeviceCall.{Idle, Write, Sync}
 
 -- a write that is done
@@ -30,26 +30,21 @@ torn_same at n old = record {
   no_shorter = omega arith;
 }
 
--- a write of which nothing was written
-cut_to_none : (at : ℕ) (piece bytes : List ℕ) → CutShort at piece bytes bytes
-cut_to_none at piece bytes =
-    record { torn = torn_same at (length piece) bytes; same = λ is. refl }
-
 -- any call, of which what a disk reads as afterwards is an image
 left_call : (call : DeviceCall) (bytes : List ℕ) (Left : List ℕ → Type 0)
     → Left bytes
     → left_after call bytes Left (after_call call bytes)
 left_call Idle bytes Left left = left
 left_call Sync bytes Left left = (left, refl)
-left_call (Write at piece false) bytes Left left = (bytes, left, cut_to_none at piece bytes)
-left_call (Write at piece true) bytes Left left = (bytes, left, cut_if at piece bytes)
+left_call (Write at piece false) bytes Left left =
+    (bytes, left, torn_same at (length piece) bytes)
+left_call (Write at piece true) bytes Left left = (bytes, left, torn_if at piece bytes)
   where
-    cut_if : (at : ℕ) (piece bytes : List ℕ)
-        → CutShort at piece bytes (after_call (Write at piece true) bytes)
-    cut_if at piece bytes = elim (cases_Bool (nat_le at (length bytes))) [
-      | inl within ↦ rw within
-          (record { torn = torn_written at piece bytes (search (rules, within)); same = λ is. is })
-      | inr beyond ↦ rw beyond (cut_to_none at piece bytes)
+    torn_if : (at : ℕ) (piece bytes : List ℕ)
+        → Torn at (length piece) bytes (after_call (Write at piece true) bytes)
+    torn_if at piece bytes = elim (cases_Bool (nat_le at (length bytes))) [
+      | inl within ↦ rw within (torn_written at piece bytes (search (rules, within)))
+      | inr beyond ↦ rw beyond (torn_same at (length piece) bytes)
     ]
 
 left_calls : (calls : List DeviceCall) (bytes : List ℕ) (Left : List ℕ → Type 0)

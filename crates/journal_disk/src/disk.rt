@@ -2,7 +2,7 @@
 ghost use Rattle.std.specs.Prelude.{◌≡◌, ◌+◌, ◌≤◌, ◌∷◌, [], Option, IfOk, OnOk, OnErr, is_err, length, take, drop};
 ghost use Rattle.std.specs.Option.{option_map};
 ghost use Rattle.apron_base.specs.Counts.{Counts};
-ghost use Rattle.journal_disk.specs.Disk.{DiskState, Does, IfExposed, IsThere, Between, Torn, IsDurable, Goes, Same, Stays, with_piece_at};
+ghost use Rattle.journal_disk.specs.Disk.{DiskState, Does, IfExposed, Between, Torn, IsDurable, Goes, OnlySyncs, Stays, with_piece_at};
 ghost use Rattle.journal_disk.specs.Disk.DoneCall.{DoneWrite, DoneSync};
 
 use apron_base::Failed;
@@ -18,7 +18,7 @@ pub trait Disk {
     fn length(&mut self) -> Result<u32, Failed>
         ensures length { IfOk result
             (λ size. IfExposed (state self.old) (λ bytes. size ≡ length bytes)) }
-        ensures done { OnOk result ((state self.new).done ≡ (state self.old).done) }
+        ensures done { (state self.new).done ≡ (state self.old).done }
         ensures stays { Stays (state self.old) (state self.new) }
         ensures counts { Counts (is_err result) (state self.old).faults (state self.new).faults };
 
@@ -28,14 +28,13 @@ pub trait Disk {
             (λ bytes. at + length into.old ≤ length bytes) }
         ensures read { OnOk result (IfExposed (state self.old)
             (λ bytes. into.new ≡ take (length into.old) (drop at bytes))) }
-        ensures done { OnOk result ((state self.new).done ≡ (state self.old).done) }
+        ensures done { (state self.new).done ≡ (state self.old).done }
         ensures stays { Stays (state self.old) (state self.new) }
         ensures counts { Counts (is_err result) (state self.old).faults (state self.new).faults };
 
     /// Writes the piece at `at`, over what is there and past the end. Until a sync, a crash may
     /// leave any bytes in the piece's range and past the old end. After an `Err` reads may give any
-    /// bytes there, too. Bytes that are safely there already, and are written again, stay in either
-    /// case.
+    /// bytes there, too.
     fn write_at(&mut self, at: u32, piece: &[u8]) -> Result<(), Failed>
         requires inside { IfExposed (state self.old) (λ bytes. at ≤ length bytes) }
         ensures written { OnOk result ((state self.new).contents
@@ -43,16 +42,15 @@ pub trait Disk {
         ensures torn { OnErr result (Between (Torn at (length piece.now))
             (state self.old).contents (state self.new).contents) }
         ensures crash { Goes (Torn at (length piece.now)) (state self.old) (state self.new) }
-        ensures again { IsThere at piece.now (state self.old)
-            → Goes Same (state self.old) (state self.new) }
         ensures done { OnOk result
             (Does (DoneWrite at (length piece.now) ∷ []) (state self.old) (state self.new)) }
         ensures counts { Counts (is_err result) (state self.old).faults (state self.new).faults };
 
-    /// After it a crash leaves what a read gives.
+    /// After it a crash leaves what a read gives. If it fails it may have been done or not.
     fn sync(&mut self) -> Result<(), Failed>
         ensures durable { OnOk result (IsDurable (state self.old) (state self.new)) }
         ensures done { OnOk result (Does (DoneSync ∷ []) (state self.old) (state self.new)) }
+        ensures syncs { OnErr result (OnlySyncs (state self.old) (state self.new)) }
         ensures stays { Stays (state self.old) (state self.new) }
         ensures counts { Counts (is_err result) (state self.old).faults (state self.new).faults };
 

@@ -3,7 +3,7 @@
 // written.
 ghost use Rattle.std.specs.Prelude.{◌≡◌, ◌+◌, ◌^◌, ◌≤◌, ◌<◌, ◌++◌, ◌∷◌, [], length, take, is_err, OnOk};
 ghost use Rattle.apron_base.specs.Counts.{Counts};
-ghost use Rattle.journal_disk.specs.Disk.{Does, IfExposed, IsThere, TellsAlike, Continues, Goes, Same, Torn, IsSafe, Stays, EachImage, EachImageSince, safe_write, with_piece_at};
+ghost use Rattle.journal_disk.specs.Disk.{Does, IfExposed, TellsAlike, Continues, Goes, Torn, IsSafe, EachImage, EachImageSince, safe_write, with_piece_at};
 ghost use Rattle.journal_disk.specs.Entries.{closed_gate, with_length, IsEntry};
 ghost use Rattle.journal_disk.specs.Limits.{record_frame};
 ghost use Rattle.journal_disk.specs.Gates.{GateIs, IsClosed, IsRecord, IsWhole, FromClosed, FromGate, FromWhole, mending_calls};
@@ -82,24 +82,6 @@ pub(crate) fn mend<D: Disk>(disk: &mut D, place: u32, unclean: bool) -> Result<(
     set_gate(disk, place, CLOSED)
 }
 
-/// Writes again what the disk reads as, which is this text, from a place on, and syncs.
-pub(crate) fn write_back<D: Disk>(
-    disk: &mut D,
-    text: &[u8],
-    from: usize,
-    size: usize,
-) -> Result<(), Failed>
-    requires inside { from + size ≤ length text.now }
-    requires fits { from < 2 ^ 32 }
-    requires safe { IfExposed (D.state disk.old)
-        (λ bytes. (bytes ≡ text.now) × IsSafe bytes (D.state disk.old)) }
-    ensures stays { Stays (D.state disk.old) (D.state disk.new) }
-    ensures done { OnOk result (Does (safe_write from size) (D.state disk.old) (D.state disk.new)) }
-    ensures counts { Counts (is_err result) (D.state disk.old).faults (D.state disk.new).faults }
-{
-    write_safely(disk, from as u32, &text[from..from + size])
-}
-
 // Writes over what is there, and past the end; then syncs, so that a crash leaves what was written.
 pub(crate) fn write_safely<D: Disk>(disk: &mut D, at: u32, piece: &[u8]) -> Result<(), Failed>
     requires inside { IfExposed (D.state disk.old) (λ bytes. at ≤ length bytes) }
@@ -107,8 +89,6 @@ pub(crate) fn write_safely<D: Disk>(disk: &mut D, at: u32, piece: &[u8]) -> Resu
     ensures crash { Goes (Torn at (length piece.now)) (D.state disk.old) (D.state disk.new) }
     ensures safe { OnOk result (IfExposed (D.state disk.old)
         (λ bytes. IsSafe (with_piece_at at piece.now bytes) (D.state disk.new))) }
-    ensures again { IsThere at piece.now (D.state disk.old)
-        → Goes Same (D.state disk.old) (D.state disk.new) }
     ensures done { OnOk result
         (Does (safe_write at (length piece.now)) (D.state disk.old) (D.state disk.new)) }
     ensures counts { Counts (is_err result) (D.state disk.old).faults (D.state disk.new).faults }

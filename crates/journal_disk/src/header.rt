@@ -25,8 +25,8 @@ const LINE_END: [u8; 2] = *b"\r\n";
 // Where the line's end is.
 const LINE: usize = 6;
 
-// Where the digests are.
-const DIGESTS: usize = 8;
+/// Where the digests are.
+pub(crate) const DIGESTS: usize = 8;
 
 /// How long the header is: the first gate of the old section is there.
 pub(crate) const HEADER: usize = 72;

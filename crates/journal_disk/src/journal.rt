@@ -1,16 +1,17 @@
 // The journal of a history's entries.
-ghost use Rattle.std.specs.Prelude.{◌≡◌, ◌≤◌, ◌<◌, ◌+◌, ◌*◌, Ok, false, length, OnOk, OnErr, IfOk, IfErr, MatchResult, IsOk};
+ghost use Rattle.std.specs.Prelude.{◌≡◌, ◌≤◌, ◌<◌, ◌+◌, ◌*◌, ◌∷◌, [], Ok, false, length, OnOk, OnErr, IfOk, IfErr, MatchResult, IsOk};
 ghost use Rattle.apron_base.specs.Counts.{Counts};
 ghost use Rattle.apron_base.specs.Keeper.{AddsEntry, FailsToAdd};
-ghost use Rattle.journal_disk.specs.Disk.{Continues, Does, IfExposed, IsDurable, IsSafe, Stays};
-ghost use Rattle.journal_disk.specs.Extent.{AppendsSafely, HasOpened, IsCrashSafe, append_calls, keeper_of, opening_calls};
+ghost use Rattle.journal_disk.specs.Disk.{Continues, Does, IfExposed, IsDurable, IsSafe, OnlySyncs, Stays};
+ghost use Rattle.journal_disk.specs.Disk.DoneCall.{DoneSync};
+ghost use Rattle.journal_disk.specs.Extent.{AppendsSafely, HasOpened, IsCrashSafe, append_calls, keeper_of};
 ghost use Rattle.journal_disk.specs.Faults.{OpenFails};
 ghost use Rattle.journal_disk.specs.Header.{opening_of};
 ghost use Rattle.journal_disk.specs.Limits.{most_bytes, most_entries, most_first, most_record};
 ghost use Rattle.journal_disk.specs.Opening.{IsNewSection};
 
 use crate::gates::{FRAME, OPEN, mend, set_gate, stage};
-use crate::opening::{NewSection, read_journal, reread_journal};
+use crate::opening::{NewSection, read_journal};
 use crate::records::Records;
 use crate::{Disk, JournalFault};
 use apron_base::{Failed, Keeper, Listed, MAX_ENTRIES, MAX_ENTRY, Memory};
@@ -49,10 +50,10 @@ impl<D: Disk> Journal<D> {
     /// Opens the journal of format 2 of the files of these two digests (32 bytes each), and gives
     /// the entries of its new section, in order. It syncs before it reads, so a later crash leaves
     /// what it gives. If a record isn't whole it does both once more, since a replicated file
-    /// system may have told an old size of the file, at which the journal seems cut. A refusal
-    /// hands the disk back, which reads as before. It is `DiskFault` if the disk failed;
-    /// `NotAJournal`, `OtherAirport`, `OldFormat` or `BadRecord` by what the disk reads as, tested
-    /// in this order; or `Memory`.
+    /// system may have told an old size of the file, at which the journal seems cut. It writes
+    /// nothing. A refusal hands the disk back, which reads as before. It is `DiskFault` if the disk
+    /// failed; `NotAJournal`, `OtherAirport`, `OldFormat` or `BadRecord` by what the disk reads as,
+    /// tested in this order; or `Memory`.
     pub fn open(
         alloc: Global,
         disk: D,
@@ -63,12 +64,19 @@ impl<D: Disk> Journal<D> {
         ensures keeper { IfOk result (λ found.
             HasOpened (keeper_of found.0.extent (D.state found.0.disk)) found.1.items) }
         ensures durable { IfOk result (λ found. IsDurable (D.state disk) (D.state found.0.disk)) }
+
+        // It did one sync, and wrote nothing.
+        ensures done { IfOk result (λ found.
+            Does (DoneSync ∷ []) (D.state disk) (D.state found.0.disk)) }
         ensures counts { IfOk result (λ found.
             Counts false (D.state disk).faults (D.state found.0.disk).faults) }
         ensures refused { IfErr result (λ refusal.
             OpenFails digests.now (D.state disk) (D.state refusal.1) refusal.0) }
         ensures stays { MatchResult result (λ found. Stays (D.state disk) (D.state found.0.disk))
             (λ refusal. Stays (D.state disk) (D.state refusal.1)) }
+        ensures unwritten { MatchResult result
+            (λ found. OnlySyncs (D.state disk) (D.state found.0.disk))
+            (λ refusal. OnlySyncs (D.state disk) (D.state refusal.1)) }
     {
         let mut disk = disk;
         match read_journal(alloc, &mut disk, digests) {
@@ -101,38 +109,6 @@ impl<D: Disk> Journal<D> {
             unclean: false,
         };
         (journal, entries)
-    }
-
-    /// Opens the journal as `open` does: it reads once more if a record isn't whole, since the size
-    /// may have been told late. Then it writes its last record and the gate after it again as they
-    /// are, and syncs. So a storage whose copies differ in these bytes, since whoever wrote them
-    /// died at it, agrees in them before anything is answered. The last of the records is the only
-    /// one that may be in doubt: each other one was written, or written again, and synced before
-    /// the one after it.
-    pub fn open_to_append(
-        alloc: Global,
-        disk: D,
-        digests: &[u8; 64],
-    ) -> Result<(Journal<D>, Vec<Listed<u8>>), (JournalFault, D)>
-        ensures opened { IfOk result (λ found. IfExposed (D.state disk)
-            (λ bytes. opening_of digests.now bytes ≡ Ok found.1.items)) }
-        ensures keeper { IfOk result (λ found.
-            HasOpened (keeper_of found.0.extent (D.state found.0.disk)) found.1.items) }
-        ensures again { IfOk result (λ found. Does (opening_calls found.0.extent.place found.1.items)
-            (D.state disk) (D.state found.0.disk)) }
-        ensures durable { IfOk result (λ found. IsDurable (D.state disk) (D.state found.0.disk)) }
-        ensures counts { IfOk result (λ found.
-            Counts false (D.state disk).faults (D.state found.0.disk).faults) }
-        ensures refused { IfErr result (λ refusal.
-            OpenFails digests.now (D.state disk) (D.state refusal.1) refusal.0) }
-        ensures stays { MatchResult result (λ found. Stays (D.state disk) (D.state found.0.disk))
-            (λ refusal. Stays (D.state disk) (D.state refusal.1)) }
-    {
-        let mut disk = disk;
-        match reread_journal(alloc, &mut disk, digests) {
-            Ok(section) => Ok(Journal::of(disk, section)),
-            Err(fault) => Err((fault, disk)),
-        }
     }
 
     /// The disk as it is. A crash leaves on it the journal's entries, or these and the one at risk.

@@ -16,6 +16,7 @@ mod laws;
 mod memory_disk;
 mod opening;
 mod records;
+mod rewriting;
 mod sections;
 mod upgrade;
 
@@ -26,4 +27,5 @@ pub use header::init;
 pub use journal::Journal;
 pub use laws::a_new_journal_opens;
 pub use memory_disk::{DiskCall, MemoryDisk, Room, Unsynced};
+pub use rewriting::{RewritingDisk, write_back};
 pub use upgrade::{Found, OldJournal, open_old};

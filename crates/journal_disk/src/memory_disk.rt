@@ -43,7 +43,7 @@ pub enum Unsynced {
     Whole,
     /// They are done, but of the last one only the first half.
     LastHalf,
-    /// They are done, with 1 as each of their bytes; but a piece that was there already stays.
+    /// They are done, with 1 as each of their bytes.
     Ones,
 }
 
@@ -174,6 +174,7 @@ impl MemoryDisk {
             (bytes_of self.new ≡ after_call (with_piece call piece.now) (bytes_of self.old)) }
         ensures done { OnOk result ((disk_of self.new).done
             ≡ (disk_of self.old).done ++ done_of (with_piece call piece.now)) }
+        ensures undone { OnErr result ((disk_of self.new).done ≡ (disk_of self.old).done) }
         ensures same { OnErr result (bytes_of self.new ≡ bytes_of self.old) }
         ensures crash { Goes (Step (with_piece call piece.now))
             (disk_of self.old) (disk_of self.new) }
@@ -339,7 +340,6 @@ fn image_after(
                         &piece[..*size / 2],
                     )?,
                     Unsynced::Whole | Unsynced::LastHalf => put_over(&mut image, *at, piece)?,
-                    Unsynced::Ones if has_piece(&image, *at, piece) => {}
                     Unsynced::Ones => put_over(&mut image, *at, &vec![in alloc; 1; *size]?)?,
                 }
             }
@@ -350,13 +350,6 @@ fn image_after(
 
 fn is_write(call: &DiskCall) -> bool {
     matches!(call, DiskCall::Wrote { .. })
-}
-
-// The piece is there already.
-fn has_piece(bytes: &[u8], at: u32, piece: &[u8]) -> bool {
-    bytes
-        .get(at as usize..)
-        .is_some_and(|behind| behind.starts_with(piece))
 }
 
 // Writes over what is there, and past the end. Zeros fill the space between the old end and the

@@ -1,12 +1,10 @@
 // Opens a journal.
-ghost use Rattle.std.specs.Prelude.{◌≡◌, ◌≤◌, ◌+◌, ◌*◌, ◌∷◌, [], ℕ, List, Ok, false, length, OnOk, IfOk, IfErr, IfSome};
+ghost use Rattle.std.specs.Prelude.{◌≡◌, ◌≤◌, ◌+◌, ◌*◌, ◌∷◌, [], ℕ, List, Ok, false, length, OnOk, OnErr, IfOk, IfErr, IfSome};
 ghost use Rattle.std.specs.Option.{option_map};
 ghost use Rattle.apron_base.specs.Counts.{Counts};
-ghost use Rattle.apron_base.specs.Histories.{Every};
-ghost use Rattle.journal_disk.specs.Disk.{Does, IfExposed, IsDurable, Stays};
+ghost use Rattle.journal_disk.specs.Disk.{Does, IfExposed, IsDurable, OnlySyncs, Stays};
 ghost use Rattle.journal_disk.specs.Disk.DoneCall.{DoneSync};
-ghost use Rattle.journal_disk.specs.Entries.{IsEntry, last_record, records};
-ghost use Rattle.journal_disk.specs.Extent.{opening_calls};
+ghost use Rattle.journal_disk.specs.Entries.{records};
 ghost use Rattle.journal_disk.specs.Header.{old_opening_of, opening_of};
 ghost use Rattle.journal_disk.specs.Faults.{TextFails, OldTextFails, OpenFails, OldOpenFails, SectionFails, ReadFails, not_bad};
 ghost use Rattle.journal_disk.specs.Limits.{most_entries, most_first, most_record};
@@ -14,11 +12,9 @@ ghost use Rattle.journal_disk.specs.Opening.{IsNewSection, IsOldSection};
 ghost use Rattle.journal_disk.specs.declared.fault.JournalFault.{JournalFault};
 ghost use Rattle.journal_disk.specs.declared.fault.JournalFault.TheVariants.{BadRecord};
 
-use crate::gates::{FRAME, write_back};
 use crate::header::{FORMAT, HEADER, NEW, test_header};
 use crate::records::{Records, pass_records, read_records};
 use crate::{Disk, JournalFault};
-use apron_base::Listed;
 use std::alloc::Global;
 
 /// The new section of a journal: where its first gate is, and its records.
@@ -44,54 +40,14 @@ pub(crate) fn read_journal<D: Disk>(
     ensures few { IfOk result (λ found. length found.records.entries.items ≤ most_entries) }
     ensures within { IfOk result (λ found.
         found.records.length ≤ most_record * length found.records.entries.items) }
+    ensures done { OnOk result (Does (DoneSync ∷ []) (D.state disk.old) (D.state disk.new)) }
     ensures counts { OnOk result
         (Counts false (D.state disk.old).faults (D.state disk.new).faults) }
     ensures refused { IfErr result (OpenFails digests.now (D.state disk.old) (D.state disk.new)) }
+    ensures unwritten { OnlySyncs (D.state disk.old) (D.state disk.new) }
 {
     let (_, section) = read_section(alloc, disk, digests)?;
     Ok(section)
-}
-
-/// Reads the disk as `read_journal` does, then writes the last record and the gate after it again as
-/// they are, and syncs. If there is no record it writes the gate alone.
-pub(crate) fn reread_journal<D: Disk>(
-    alloc: Global,
-    disk: &mut D,
-    digests: &[u8; 64],
-) -> Result<NewSection, JournalFault>
-    ensures stays { Stays (D.state disk.old) (D.state disk.new) }
-    ensures durable { OnOk result (IsDurable (D.state disk.old) (D.state disk.new)) }
-    ensures opened { IfOk result (λ found. IfExposed (D.state disk.old)
-        (λ bytes. opening_of digests.now bytes ≡ Ok found.records.entries.items)) }
-    ensures whole { IfOk result (λ found. IfExposed (D.state disk.old)
-        (λ bytes. IsNewSection bytes found.first found.records.entries.items found.records.length)) }
-    ensures early { IfOk result (λ found. found.first ≤ most_first) }
-    ensures few { IfOk result (λ found. length found.records.entries.items ≤ most_entries) }
-    ensures within { IfOk result (λ found.
-        found.records.length ≤ most_record * length found.records.entries.items) }
-    ensures again { IfOk result (λ found.
-        Does (opening_calls (found.first + found.records.length) found.records.entries.items)
-        (D.state disk.old) (D.state disk.new)) }
-    ensures counts { OnOk result
-        (Counts false (D.state disk.old).faults (D.state disk.new).faults) }
-    ensures refused { IfErr result (OpenFails digests.now (D.state disk.old) (D.state disk.new)) }
-{
-    let (text, section) = read_section::<D, NewSection>(alloc, disk, digests)?;
-    let place = section.first + section.records.length;
-    let last = last_record(&section.records.entries);
-    write_back(disk, &text, place - last, last + 1)?;
-    Ok(section)
-}
-
-// How long the record of the last of these entries is; 0 if there is none.
-fn last_record(entries: &[Listed<u8>]) -> usize
-    requires sizes { Every IsEntry entries.now }
-    ensures length { result ≡ last_record entries.now }
-{
-    match entries.last() {
-        Some(entry) => FRAME + entry.len(),
-        None => 0,
-    }
 }
 
 /// Makes what the disk reads as safe from a crash, and reads it as a journal of format 1; `None` if
@@ -118,13 +74,14 @@ pub(crate) fn read_old_journal<D: Disk>(
         (Counts false (D.state disk.old).faults (D.state disk.new).faults) }
     ensures refused { IfErr result
         (OldOpenFails digests.now (D.state disk.old) (D.state disk.new)) }
+    ensures unwritten { OnlySyncs (D.state disk.old) (D.state disk.new) }
 {
     let (_, found) = read_section(alloc, disk, digests)?;
     Ok(found)
 }
 
-// What is read of a journal's text.
-trait Section: Drop + Sized {
+/// What is read of a journal's text.
+pub(crate) trait Section: Drop + Sized {
     // With these digests it is what is read of this text.
     ghost is_read: { List ℕ → List ℕ → Self → Type 0 };
 
@@ -171,10 +128,10 @@ impl Section for Option<Records> {
     ghost whole = { λ digests text found number is. not_bad is.0 };
 }
 
-// Makes what the disk reads as safe from a crash, and reads a section of it. If a record isn't
-// whole it does all that once more, and the second answer counts: a replicated file system may have
-// told an old size of the file, at which the text was cut.
-fn read_section<D: Disk, P: Section>(
+/// Makes what the disk reads as safe from a crash, and reads a section of it. If a record isn't
+/// whole it does all that once more, and the second answer counts: a replicated file system may
+/// have told an old size of the file, at which the text was cut.
+pub(crate) fn read_section<D: Disk, P: Section>(
     alloc: Global,
     disk: &mut D,
     digests: &[u8; 64],
@@ -190,6 +147,7 @@ fn read_section<D: Disk, P: Section>(
         (Counts false (D.state disk.old).faults (D.state disk.new).faults) }
     ensures refused { IfErr result
         (SectionFails (P.fails digests.now) (D.state disk.old) (D.state disk.new)) }
+    ensures unwritten { OnErr result (OnlySyncs (D.state disk.old) (D.state disk.new)) }
 {
     match read_once(alloc, disk, digests) {
         Err(JournalFault::BadRecord(_)) => read_once(alloc, disk, digests),
@@ -214,6 +172,7 @@ fn read_once<D: Disk, P: Section>(
         (Counts false (D.state disk.old).faults (D.state disk.new).faults) }
     ensures refused { IfErr result
         (SectionFails (P.fails digests.now) (D.state disk.old) (D.state disk.new)) }
+    ensures unwritten { OnErr result (OnlySyncs (D.state disk.old) (D.state disk.new)) }
 {
     let text = read_all(alloc, disk)?;
     let section = P::read(alloc, &text, digests)?;
@@ -231,6 +190,7 @@ fn read_all<D: Disk>(alloc: Global, disk: &mut D) -> Result<Vec<u8>, JournalFaul
     ensures counts { OnOk result
         (Counts false (D.state disk.old).faults (D.state disk.new).faults) }
     ensures refused { IfErr result (ReadFails (D.state disk.old).faults (D.state disk.new).faults) }
+    ensures unwritten { OnErr result (OnlySyncs (D.state disk.old) (D.state disk.new)) }
 {
     disk.sync()?;
     let length = disk.length()?;

@@ -2,7 +2,7 @@
 ghost use Rattle.std.specs.Prelude.{◌≡◌, ◌≤◌, Ok, false, is_err, length, OnOk, IfOk, IfErr, MatchResult};
 ghost use Rattle.apron_base.specs.Counts.{Counts};
 ghost use Rattle.apron_base.specs.Histories.{Every};
-ghost use Rattle.journal_disk.specs.Disk.{Continues, IfExposed, IsDurable, Stays};
+ghost use Rattle.journal_disk.specs.Disk.{Continues, IfExposed, IsDurable, OnlySyncs, Stays};
 ghost use Rattle.journal_disk.specs.Entries.{IsEntry, records};
 ghost use Rattle.journal_disk.specs.Faults.{OldOpenFails};
 ghost use Rattle.journal_disk.specs.Found.{disk_found, old_found};
@@ -67,6 +67,9 @@ pub fn open_old<D: Disk>(
         OldOpenFails digests.now (D.state disk) (D.state refusal.1) refusal.0) }
     ensures stays { MatchResult result (λ found. Stays (D.state disk) (D.state (disk_found found)))
         (λ refusal. Stays (D.state disk) (D.state refusal.1)) }
+    ensures unwritten { MatchResult result
+        (λ found. OnlySyncs (D.state disk) (D.state (disk_found found)))
+        (λ refusal. OnlySyncs (D.state disk) (D.state refusal.1)) }
 {
     let mut disk = disk;
     match read_old_journal(alloc, &mut disk, digests) {

@@ -2,7 +2,7 @@
 use Rattle.std.specs.Prelude.{◌≡◌, ◌⊎◌, ℕ, List, Option, Some, None, IfSome, IsSome, IsSomeAnd, MatchOption, Result, IfOk, IsErr, IsOkAnd, OnErr}
 use Rattle.std.specs.declared.io.Error.{Error}
 use Rattle.journal_disk.specs.Disk.{DiskState, DoneCall, Does, IfExposed, Stays, untold_disk}
-use Rattle.system_files.specs.Files.{FailsFor, FileState, IfTold}
+use Rattle.system_files.specs.Files.{FailsFor, FileState, IfTold, WritesAlone}
 use Rattle.system_files.specs.Files.Lock.{Shared, Exclusive, Unavailable}
 use Rattle.system_files.specs.declared.locked_file.Access.{Access}
 use Rattle.system_files.specs.declared.locked_file.Access.TheVariants.{Reads, ReadsAndWrites}
@@ -20,6 +20,11 @@ abbrev pub IsLocked : Access → FileState → Type 0
 IsLocked ReadsAndWrites file = IsAlone file
 IsLocked Reads file = IsAmongReaders file
 
+-- these are the file's lengths
+abbrev pub HasLengths : ℕ → ℕ → FileState → Type 0
+HasLengths reached synced file =
+    IfTold file (file.lengths ≡ record { reached = reached; synced = synced })
+
 -- a disk over a file: the file with its lock, if it has one, and how many calls have failed
 pub record FileHeld (F : Type 0) : Type 0 where
   pub file : Option F
@@ -34,13 +39,17 @@ disk_over state (Some file) faults = record (state file).disk { faults = faults 
 abbrev pub disk_of : {F : Type 0} → (F → FileState) → FileHeld F → DiskState
 disk_of state held = disk_over state held.file held.faults
 
--- what a disk has is the file that was opened: nothing was written to it, and these syncs were done
+-- a file is as it was opened: nothing was written to it, and these syncs were done
+pub record IsAsOpened (syncs : List DoneCall) (first now : FileState) : Type 0 where
+  pub disk : Stays first.disk now.disk
+  pub done : Does syncs first.disk now.disk
+  pub opening : now.opening ≡ first.opening
+
+-- what a disk has is the file that was opened, as it was opened but for these syncs
 abbrev pub HasOpened : {F : Type 0} → List DoneCall → (F → FileState) → Result F Error → Option F
     → Type 0
 HasOpened syncs state opened file =
-    IfSome file (λ now. IsOkAnd opened (λ first.
-    Stays (state first).disk (state now).disk
-    × Does syncs (state first).disk (state now).disk))
+    IfSome file (λ now. IsOkAnd opened (λ first. IsAsOpened syncs (state first) (state now)))
 
 -- a file that was opened, and is free so, is had
 abbrev pub IsHadIf : {F : Type 0} → (FileState → Type 0) → (F → FileState) → Result F Error
@@ -65,3 +74,10 @@ pub reads_over : {F : Type 0} (state : F → FileState)
     ((disk_over state file faults).images (disk_over state file faults).moment)
 reads_over state reads None faults = λ _ _. tt
 reads_over state reads (Some file) faults = reads file
+
+-- a file that others may have too is not written by a disk over it
+abbrev pub WritesOnlyAlone : {F A E : Type 0} → (F → FileState) → FileHeld F → FileHeld F
+    → Result A E → Type 0
+WritesOnlyAlone state before after result =
+    IfSome before.file (λ first. IsSomeAnd after.file
+    (λ now. WritesAlone (state first) (state now) result))

@@ -3,16 +3,16 @@ ghost use Rattle.std.specs.Prelude.{◌≡◌, ◌+◌, ◌≤◌, ◌∷◌, []
 ghost use Rattle.std.specs.Option.{option_map};
 ghost use Rattle.std.specs.Result.{result_ok};
 ghost use Rattle.apron_base.specs.Counts.{Counts};
-ghost use Rattle.journal_disk.specs.Disk.{Between, Does, Goes, IfExposed, IsDurable, IsThere, Same, Stays, Torn, with_piece_at};
+ghost use Rattle.journal_disk.specs.Disk.{Between, Does, Goes, IfExposed, IsDurable, OnlySyncs, Stays, Torn, with_piece_at};
 ghost use Rattle.journal_disk.specs.Disk.DoneCall.{DoneWrite, DoneSync};
-ghost use Rattle.system_files.specs.Disks.{EndsBy, HasOpened, IsAlone, IsAmongReaders, IsHadIf, disk_of};
-ghost use Rattle.system_files.specs.Files.{IsFree, IsFreeToRead, IsLasting, IsNotOurs, IsTooLong, NoOther};
+ghost use Rattle.system_files.specs.Disks.{EndsBy, HasOpened, IsAlone, IsAmongReaders, IsHadIf, WritesOnlyAlone, disk_of};
+ghost use Rattle.system_files.specs.Files.{IsFree, IsFreeToRead, IsLasting, IsNotOurs, IsOpened, IsTooLong, NoOther};
 
 use crate::causes::LastCause;
 use crate::locked_file::LockedFile;
-use crate::{RawFile, SystemFile};
+use crate::{FileOpener, Opening, RawFile, SystemFile};
 use apron_base::Failed;
-use journal_disk::Disk;
+use journal_disk::{Disk, RewritingDisk};
 use std::fs::File;
 use std::io;
 use std::marker::Model;
@@ -48,31 +48,40 @@ impl<'a, R, F: RawFile> Model for FileDisk<'a, R, F> {
     ghost view = { λ d. record { file = result_ok d.file; faults = d.faults } };
 }
 
-impl<'a, R: Files<File = File> + Eprint> FileDisk<'a, R, SystemFile<'a, R>> {
+impl<'a, R: Eprint, F: RawFile + Drop> FileDisk<'a, R, F> {
     /// The file at this path, with a lock that excludes all other processes.
-    pub fn open(rt: &'a R, path: &'a str) -> Self
+    pub fn open<O: FileOpener<'a, File = F> + Drop>(rt: &'a R, files: O, path: &'a str) -> Self
         ensures none { result.faults ≡ 0 }
+        ensures opened { IfSome result.file (λ file. IsOpened Opening.ToWrite (F.state file)) }
+        ensures alone { IfSome result.file (λ file. IsAlone (F.state file)) }
     {
-        FileDisk::to_write(rt, path, SystemFile::open_to_write(rt, path))
+        FileDisk::to_write(rt, path, files.open(path, Opening::ToWrite))
     }
 
     /// The same, but the file is made if there is none. A crash leaves a file at this path.
-    pub fn make(rt: &'a R, path: &'a str) -> Self
+    pub fn make<O: FileOpener<'a, File = F> + Drop>(rt: &'a R, files: O, path: &'a str) -> Self
         ensures none { result.faults ≡ 0 }
+        ensures opened { IfSome result.file (λ file. IsOpened Opening.ToMake (F.state file)) }
+        ensures alone { IfSome result.file (λ file. IsAlone (F.state file)) }
+        ensures lasting { IfSome result.file (λ file. IsLasting (F.state file)) }
     {
-        FileDisk::to_make(rt, path, SystemFile::make(rt, path))
+        FileDisk::to_make(rt, path, files.open(path, Opening::ToMake))
     }
 
     /// The file at this path, for reading only, with a lock that other readers may hold too. Each
     /// write fails.
-    pub fn open_to_read(rt: &'a R, path: &'a str) -> Self
+    pub fn open_to_read<O: FileOpener<'a, File = F> + Drop>(
+        rt: &'a R,
+        files: O,
+        path: &'a str,
+    ) -> Self
         ensures none { result.faults ≡ 0 }
+        ensures opened { IfSome result.file (λ file. IsOpened Opening.ToRead (F.state file)) }
+        ensures among { IfSome result.file (λ file. IsAmongReaders (F.state file)) }
     {
-        FileDisk::to_read(rt, path, SystemFile::open_to_read(rt, path))
+        FileDisk::to_read(rt, path, files.open(path, Opening::ToRead))
     }
-}
 
-impl<'a, R: Eprint, F: RawFile + Drop> FileDisk<'a, R, F> {
     /// Over a file that was opened to be read and written, or why it wasn't: with a lock that
     /// excludes all other processes. No call of it has failed yet.
     pub fn to_write(rt: &'a R, path: &'a str, opened: io::Result<F>) -> Self
@@ -159,8 +168,7 @@ impl<'a, R: Eprint, F: RawFile> Disk for FileDisk<'a, R, F> {
     fn length(&mut self) -> Result<u32, Failed>
         ensures length { IfOk result
             (λ size. IfExposed (disk_of F.state self.old) (λ bytes. size ≡ length bytes)) }
-        ensures done { OnOk result
-            ((disk_of F.state self.new).done ≡ (disk_of F.state self.old).done) }
+        ensures done { (disk_of F.state self.new).done ≡ (disk_of F.state self.old).done }
         ensures stays { Stays (disk_of F.state self.old) (disk_of F.state self.new) }
         ensures counts { Counts (is_err result)
             (disk_of F.state self.old).faults (disk_of F.state self.new).faults }
@@ -179,8 +187,7 @@ impl<'a, R: Eprint, F: RawFile> Disk for FileDisk<'a, R, F> {
             (λ bytes. at + length into.old ≤ length bytes) }
         ensures read { OnOk result (IfExposed (disk_of F.state self.old)
             (λ bytes. into.new ≡ take (length into.old) (drop at bytes))) }
-        ensures done { OnOk result
-            ((disk_of F.state self.new).done ≡ (disk_of F.state self.old).done) }
+        ensures done { (disk_of F.state self.new).done ≡ (disk_of F.state self.old).done }
         ensures stays { Stays (disk_of F.state self.old) (disk_of F.state self.new) }
         ensures counts { Counts (is_err result)
             (disk_of F.state self.old).faults (disk_of F.state self.new).faults }
@@ -202,13 +209,12 @@ impl<'a, R: Eprint, F: RawFile> Disk for FileDisk<'a, R, F> {
             (disk_of F.state self.old).contents (disk_of F.state self.new).contents) }
         ensures crash { Goes (Torn at (length piece.now))
             (disk_of F.state self.old) (disk_of F.state self.new) }
-        ensures again { IsThere at piece.now (disk_of F.state self.old)
-            → Goes Same (disk_of F.state self.old) (disk_of F.state self.new) }
         ensures done { OnOk result (Does (DoneWrite at (length piece.now) ∷ [])
             (disk_of F.state self.old) (disk_of F.state self.new)) }
         ensures counts { Counts (is_err result)
             (disk_of F.state self.old).faults (disk_of F.state self.new).faults }
         ensures cause { EndsBy F.state IsNotOurs self.old self.new result }
+        ensures alone { WritesOnlyAlone F.state self.old self.new result }
     {
         let answer = match &mut self.file {
             Ok(file) => file.write(at, piece),
@@ -224,6 +230,8 @@ impl<'a, R: Eprint, F: RawFile> Disk for FileDisk<'a, R, F> {
             (IsDurable (disk_of F.state self.old) (disk_of F.state self.new)) }
         ensures done { OnOk result
             (Does (DoneSync ∷ []) (disk_of F.state self.old) (disk_of F.state self.new)) }
+        ensures syncs { OnErr result
+            (OnlySyncs (disk_of F.state self.old) (disk_of F.state self.new)) }
         ensures stays { Stays (disk_of F.state self.old) (disk_of F.state self.new) }
         ensures counts { Counts (is_err result)
             (disk_of F.state self.old).faults (disk_of F.state self.new).faults }
@@ -235,5 +243,12 @@ impl<'a, R: Eprint, F: RawFile> Disk for FileDisk<'a, R, F> {
         };
         self.syncs.hear_change(self.rt, self.path, &answer, LOST);
         self.count_error(answer)
+    }
+}
+
+impl<'a, R: Files<File = File> + Eprint> RewritingDisk for FileDisk<'a, R, SystemFile<'a, R>> {
+    /// The system's file exposes nothing; that the bytes stay is a property of its storage.
+    fn rewrite_at(&mut self, at: u32, piece: &[u8]) -> Result<(), Failed> {
+        self.write_at(at, piece)
     }
 }

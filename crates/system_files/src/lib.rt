@@ -15,6 +15,6 @@ mod system_file;
 pub use causes::{report_cause, report_meaning};
 pub use file_disk::FileDisk;
 pub use file_shelf::{FileShelf, Folder};
-pub use raw_file::RawFile;
+pub use raw_file::{FileOpener, Opening, RawFile};
 pub use reporting_stream::ReportingStream;
 pub use system_file::SystemFile;

@@ -3,17 +3,39 @@ ghost use Rattle.std.specs.Prelude.{◌≡◌, ◌≢◌, ◌+◌, ◌≤◌, �
 ghost use Rattle.std.specs.IoError.{error_kind};
 ghost use Rattle.std.specs.Option.{option_map};
 ghost use Rattle.apron_base.specs.Counts.{Counts};
-ghost use Rattle.journal_disk.specs.Disk.{Between, Does, Goes, IfExposed, IsDurable, IsThere, Same, Stays, Torn, with_piece_at};
+ghost use Rattle.journal_disk.specs.Disk.{Between, Does, Goes, IfExposed, IsDurable, OnlySyncs, Stays, Torn, with_piece_at};
 ghost use Rattle.journal_disk.specs.Disk.DoneCall.{DoneWrite, DoneSync};
-ghost use Rattle.system_files.specs.Files.{FileState, IfTold, Lock, MayBeWritten, OnlyReads, is_early_end, is_without_syncs, lock_after, lock_beside};
+ghost use Rattle.system_files.specs.Files.{FileState, IfTold, IsOpened, Lock, MayBeWritten, OnlyReads, is_without_syncs, lengths_synced, lengths_told, lengths_written, lock_after, lock_beside, no_lengths};
 
 use std::fs::TryLockError;
 use std::io;
 
+/// How a file is opened.
+#[derive(Clone, Copy, Debug, PartialEq, Eq)]
+pub enum Opening {
+    /// To be read and written.
+    ToWrite,
+    /// The same, and it is made if there is none.
+    ToMake,
+    /// To be read alone.
+    ToRead,
+}
+
+/// Where files are opened by their paths: the system, or a place that a test makes.
+pub trait FileOpener<'a> {
+    /// An open file.
+    type File: RawFile + Drop;
+
+    /// Opens the file at this path in this way. `Err` too if it is no file on a disk.
+    fn open(&self, path: &'a str, opening: Opening) -> io::Result<Self::File>
+        ensures opened { IfOk result (λ file. IsOpened opening (Self.File.state file)) };
+}
+
 /// An open file: the system's, or one that a test makes. Each method is one call of the system.
 pub trait RawFile {
     /// What it reads as, if it exposes that, and what a crash may leave; the writes and the syncs
-    /// that were done; how many calls have failed; its lock; and the lock that others have.
+    /// that were done; how many calls have failed; how it was opened; its lock, and the lock that
+    /// others have; and how long it has been.
     ghost state: { Self → FileState };
 
     /// Takes a lock that excludes all other processes. It doesn't wait for it.
@@ -23,7 +45,9 @@ pub trait RawFile {
         ensures lock { IfTold (state self.new)
             ((state self.new).lock ≡ lock_after Lock.Exclusive result) }
         ensures beside { IfTold (state self.old) (lock_after Lock.Exclusive result
-            ≡ lock_beside Lock.Exclusive (state self.old).others) };
+            ≡ lock_beside Lock.Exclusive (state self.old).others) }
+        ensures opening { (state self.new).opening ≡ (state self.old).opening }
+        ensures lengths { (state self.new).lengths ≡ no_lengths };
 
     /// Takes a lock that other readers may have too. It doesn't wait for it.
     fn try_lock_shared(&mut self) -> Result<(), TryLockError>
@@ -32,40 +56,41 @@ pub trait RawFile {
         ensures lock { IfTold (state self.new)
             ((state self.new).lock ≡ lock_after Lock.Shared result) }
         ensures beside { IfTold (state self.old) (lock_after Lock.Shared result
-            ≡ lock_beside Lock.Shared (state self.old).others) };
+            ≡ lock_beside Lock.Shared (state self.old).others) }
+        ensures opening { (state self.new).opening ≡ (state self.old).opening }
+        ensures lengths { (state self.new).lengths ≡ no_lengths };
 
     /// How many bytes there are.
     fn length(&mut self) -> io::Result<u64>
         ensures length { IfOk result
             (λ size. IfExposed (state self.old).disk (λ bytes. size ≡ length bytes)) }
-        ensures done { OnOk result
-            ((state self.new).disk.done ≡ (state self.old).disk.done) }
+        ensures done { (state self.new).disk.done ≡ (state self.old).disk.done }
+        ensures lengths { IfTold (state self.old)
+            ((state self.new).lengths ≡ lengths_told (state self.old).lengths result) }
         ensures reads { OnlyReads (is_err result) (state self.old) (state self.new) };
 
-    /// Fills `into` with the bytes from `at` on. The range is inside the file. If the file ends
-    /// early, the call did nothing.
+    /// Fills `into` with the bytes from `at` on. The range is inside the file.
     fn read_exact_at(&mut self, into: &mut [u8], at: u64) -> io::Result<()>
         requires inside { IfExposed (state self.old).disk
             (λ bytes. at + length into.old ≤ length bytes) }
         ensures read { OnOk result (IfExposed (state self.old).disk
             (λ bytes. into.new ≡ take (length into.old) (drop at bytes))) }
-        ensures done { OnOk result
-            ((state self.new).disk.done ≡ (state self.old).disk.done) }
-        ensures early { IfErr result (λ cause. is_early_end (error_kind cause) ≡ true
-            → (state self.new).disk.done ≡ (state self.old).disk.done) }
+        ensures done { (state self.new).disk.done ≡ (state self.old).disk.done }
+        ensures lengths { (state self.new).lengths ≡ (state self.old).lengths }
         ensures reads { OnlyReads (is_err result) (state self.old) (state self.new) };
 
-    /// Whether it is still the file at its path.
-    fn is_at_path(&mut self) -> io::Result<bool>
+    /// How many bytes the file at its path has, if it is still this one.
+    fn length_at_path(&mut self) -> io::Result<Option<u64>>
         ensures found { IfOk result (λ found. IfTold (state self.new)
             ((state self.new).found ≡ found)) }
         ensures done { OnOk result
             ((state self.new).disk.done ≡ (state self.old).disk.done) }
+        ensures lengths { (state self.new).lengths ≡ (state self.old).lengths }
         ensures reads { OnlyReads (is_err result) (state self.old) (state self.new) };
 
     /// Writes the piece at `at`, over what is there and past the end. Nobody else may have the
-    /// file, and the call before this found it at its path. Bytes that are safely there already,
-    /// and are written again, stay, even if it fails.
+    /// file, and the call before this found it at its path, as long as syncs confirmed it to be, or
+    /// longer.
     fn write_all_at(&mut self, piece: &[u8], at: u64) -> io::Result<()>
         requires inside { IfExposed (state self.old).disk (λ bytes. at ≤ length bytes) }
         requires ours { IfTold (state self.old) (MayBeWritten (state self.old)) }
@@ -75,11 +100,12 @@ pub trait RawFile {
             (state self.old).disk.contents (state self.new).disk.contents) }
         ensures crash { Goes (Torn at (length piece.now))
             (state self.old).disk (state self.new).disk }
-        ensures again { IsThere at piece.now (state self.old).disk
-            → Goes Same (state self.old).disk (state self.new).disk }
         ensures done { OnOk result (Does (DoneWrite at (length piece.now) ∷ [])
             (state self.old).disk (state self.new).disk) }
+        ensures opening { (state self.new).opening ≡ (state self.old).opening }
         ensures lock { (state self.new).lock ≡ (state self.old).lock }
+        ensures lengths { IfTold (state self.old) ((state self.new).lengths
+            ≡ lengths_written (state self.old).lengths (at + length piece.now) result) }
         ensures counts { IfTold (state self.old) (Counts (is_err result)
             (state self.old).disk.faults (state self.new).disk.faults) };
 
@@ -93,6 +119,10 @@ pub trait RawFile {
             → (state self.old).lock ≢ Lock.Exclusive
             → IsDurable (state self.old).disk (state self.new).disk
             × Does (DoneSync ∷ []) (state self.old).disk (state self.new).disk) }
+        ensures lengths { IfTold (state self.old)
+            ((state self.new).lengths ≡ lengths_synced (state self.old).lengths result) }
+        ensures syncs { OnErr result
+            (OnlySyncs (state self.old).disk (state self.new).disk) }
         ensures reads { OnlyReads (is_err result) (state self.old) (state self.new) };
 
     /// The same, and all else that the system has of the file.
@@ -100,6 +130,8 @@ pub trait RawFile {
         ensures durable { OnOk result (IsDurable (state self.old).disk (state self.new).disk) }
         ensures done { OnOk result
             (Does (DoneSync ∷ []) (state self.old).disk (state self.new).disk) }
+        ensures lengths { IfTold (state self.old)
+            ((state self.new).lengths ≡ lengths_synced (state self.old).lengths result) }
         ensures reads { OnlyReads (is_err result) (state self.old) (state self.new) };
 
     /// Syncs its folder, so that a crash leaves a file at its path.
@@ -107,6 +139,7 @@ pub trait RawFile {
         ensures lasting { OnOk result (IfTold (state self.new) ((state self.new).lasting ≡ true)) }
         ensures done { OnOk result
             ((state self.new).disk.done ≡ (state self.old).disk.done) }
+        ensures lengths { (state self.new).lengths ≡ (state self.old).lengths }
         ensures reads { OnlyReads (is_err result) (state self.old) (state self.new) };
 
     /// What it reads as is one of the images that a crash now may leave.

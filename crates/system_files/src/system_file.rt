@@ -1,5 +1,5 @@
 // The files of the system.
-use crate::RawFile;
+use crate::{FileOpener, Opening, RawFile};
 use std::fs::{File, Metadata, OpenOptions, TryLockError};
 use std::io::ErrorKind;
 use std::os::unix::fs::{FileExt, MetadataExt};
@@ -36,34 +36,22 @@ impl Identity {
     }
 }
 
-impl<'a, R: Files<File = File>> SystemFile<'a, R> {
-    /// The file at this path, for reading and writing.
-    pub(crate) fn open_to_write(rt: &'a R, path: &'a str) -> io::Result<Self> {
-        SystemFile::open(rt, path, OpenOptions::new().read(true).write(true))
-    }
+/// The files of the system, by their paths as they are written.
+impl<'a, R: Files<File = File>> FileOpener<'a> for &'a R {
+    type File = SystemFile<'a, R>;
 
-    /// The same, but the file is made if there is none.
-    pub(crate) fn make(rt: &'a R, path: &'a str) -> io::Result<Self> {
-        SystemFile::open(
-            rt,
-            path,
-            OpenOptions::new().read(true).write(true).create(true),
-        )
-    }
-
-    /// The file at this path, for reading only.
-    pub(crate) fn open_to_read(rt: &'a R, path: &'a str) -> io::Result<Self> {
-        SystemFile::open(rt, path, OpenOptions::new().read(true))
-    }
-
-    // `Err` if it can't be opened, or is not a regular file.
-    fn open(rt: &'a R, path: &'a str, how: &OpenOptions) -> io::Result<Self> {
-        refuse_pipes(rt, path)?;
-        let file = how.open(rt, path)?;
+    // `Err` too if it is not a regular file.
+    fn open(&self, path: &'a str, opening: Opening) -> io::Result<SystemFile<'a, R>> {
+        refuse_pipes(*self, path)?;
+        let file = OpenOptions::new()
+            .read(true)
+            .write(opening != Opening::ToRead)
+            .create(opening == Opening::ToMake)
+            .open(*self, path)?;
         let found = file.metadata()?;
         if found.is_file() {
             Ok(SystemFile {
-                rt,
+                rt: *self,
                 path,
                 file,
                 identity: Identity::of(&found),
@@ -122,8 +110,13 @@ impl<'a, R: Files<File = File>> RawFile for SystemFile<'a, R> {
         self.file.read_exact_at(into, at)
     }
 
-    fn is_at_path(&mut self) -> io::Result<bool> {
-        Ok(self.identity == Identity::of(&fs::metadata(self.rt, self.path)?))
+    fn length_at_path(&mut self) -> io::Result<Option<u64>> {
+        let found = fs::metadata(self.rt, self.path)?;
+        Ok(if Identity::of(&found) == self.identity {
+            Some(found.len())
+        } else {
+            None
+        })
     }
 
     fn write_all_at(&mut self, piece: &[u8], at: u64) -> io::Result<()> {

@@ -1,5 +1,5 @@
 -- Which failures of an accept are tried again, and how a row of them ends.
-use Rattle.std.specs.Prelude.{◌≡◌, ◌==◌, ◌||◌, ◌++◌, if◌then◌else◌, ℕ, ℤ, pos, negsuc, Bool, true, false, List, [], ◌∷◌, Option, Some, None, IfSome, Result, IsOk, IsErrAnd, MatchResult, is_none}
+use Rattle.std.specs.Prelude.{◌≡◌, ◌==◌, ◌||◌, ◌++◌, if◌then◌else◌, ℕ, ℤ, pos, negsuc, Bool, true, false, List, [], ◌∷◌, Option, Some, None, IfSome, Result, Ok, Err, IsErrAnd}
 use Rattle.std.specs.declared.io.ErrorKind.{ErrorKind}
 use Rattle.std.specs.declared.io.ErrorKind.TheVariants.{Interrupted}
 use Rattle.std.specs.declared.io.Error.{Error}
@@ -32,24 +32,32 @@ is_signal _ = false
 abbrev pub is_tried_again : Error → Bool
 is_tried_again cause = is_signal (error_kind cause) || is_passing (raw_os_error cause)
 
--- the first of these failures after which it is not tried again
-abbrev pub first_lasting : List Error → Option Error
-first_lasting [] = None
-first_lasting (cause ∷ causes) = if is_tried_again cause then first_lasting causes else Some cause
+-- what comes next, without the failures before it after which it is tried again
+abbrev pub without_passing : {Ends : Type 0} → List (Result Ends Error) → List (Result Ends Error)
+without_passing [] = []
+without_passing (Ok ends ∷ coming) = Ok ends ∷ coming
+without_passing (Err cause ∷ coming) =
+    if is_tried_again cause then without_passing coming else Err cause ∷ coming
 
--- with these failures to come a doorway gives the first of them, or a connection if there is none
-abbrev pub GivesConnection : {Ends : Type 0} → List Error → Option (List Error) → Result Ends Error
-    → Type 0
-GivesConnection [] after result = IsOk result
-GivesConnection (cause ∷ causes) after result = IsErrAnd result (λ failure. failure ≡ cause)
-    × (after ≡ Some causes)
+-- with these connections and failures to come, if they are exposed, the first is given, and the
+-- others are left; if nothing is to come, it fails for a lasting cause
+abbrev pub GivesNext : {Ends : Type 0} → Option (List (Result Ends Error))
+    → Option (List (Result Ends Error)) → Result Ends Error → Type 0
+GivesNext None after result = after ≡ None
+GivesNext (Some []) after result =
+    IsErrAnd result (λ cause. is_tried_again cause ≡ false) × (after ≡ Some [])
+GivesNext (Some (first ∷ coming)) after result = (result ≡ first) × (after ≡ Some coming)
 
--- with these failures to come, taking ends at the first lasting one, or with a connection if
--- there is none
-abbrev pub EndsTaking : {Ends : Type 0} → List Error → Result Ends Error → Type 0
-EndsTaking causes result =
-    MatchResult result (λ _. first_lasting causes ≡ None)
-    (λ cause. first_lasting causes ≡ Some cause)
+-- the connections among what is to come
+abbrev pub connections_in : {Ends : Type 0} → List (Result Ends Error) → List Ends
+connections_in [] = []
+connections_in (Ok ends ∷ coming) = ends ∷ connections_in coming
+connections_in (Err _ ∷ coming) = connections_in coming
+
+-- a connection comes first
+abbrev pub is_connection_next : {Ends : Type 0} → List (Result Ends Error) → Bool
+is_connection_next (Ok _ ∷ _) = true
+is_connection_next _ = false
 
 -- what is reported: that no connection can be taken, for which cause, and that one was taken again
 pub data Notice : Type 0 where
@@ -60,15 +68,17 @@ pub data Notice : Type 0 where
 abbrev pub IsReported : Option (List Notice) → Option (List Notice) → List Notice → Type 0
 IsReported before after notices = IfSome before (λ said. after ≡ Some (said ++ notices))
 
--- the notice at the end of a row of which these failures are left
-abbrev pub end_of_row : List Error → List Notice
-end_of_row causes = if is_none (first_lasting causes) then TakenAgain ∷ [] else []
+-- the notice at the end of a row of failures, with this to come: that one was taken again, if a
+-- connection comes before a lasting failure
+abbrev pub end_of_row : {Ends : Type 0} → List (Result Ends Error) → List Notice
+end_of_row coming = if is_connection_next (without_passing coming) then TakenAgain ∷ [] else []
 
--- the notices of these failures: of the first that passes, and of the end of its row if a
+-- the notices with this to come: of the first failure that passes, and of the end of its row if a
 -- connection comes then
-abbrev pub notices : List Error → List Notice
+abbrev pub notices : {Ends : Type 0} → List (Result Ends Error) → List Notice
 notices [] = []
-notices (cause ∷ causes) =
-    if is_signal (error_kind cause) then notices causes
-    else if is_passing (raw_os_error cause) then Waits cause ∷ end_of_row causes
+notices (Ok _ ∷ _) = []
+notices (Err cause ∷ coming) =
+    if is_signal (error_kind cause) then notices coming
+    else if is_passing (raw_os_error cause) then Waits cause ∷ end_of_row coming
     else []

@@ -1,5 +1,6 @@
 // For how long a peer may keep a worker.
-ghost use Rattle.std.specs.Prelude.{◌↔◌, IsTrue};
+ghost use Rattle.std.specs.Prelude.{◌≡◌, ◌*◌, ◌↔◌, IsTrue};
+ghost use Rattle.std.specs.Duration.{as_nanos};
 ghost use Rattle.tcp_desks.specs.Limits.{AreLimits, IsLimit};
 
 use std::fmt;
@@ -18,13 +19,13 @@ pub struct TimeLimits {
     pub stall: u32,
     /// From the first bytes of a request to its last ones.
     pub request: u32,
-    /// For which no byte of a reply is taken.
+    /// From the first byte of a reply to its last one, each of which the peer's system takes.
     pub reply: u32,
 }
 
 impl TimeLimits {
     /// 15 minutes between requests, 30 seconds within a request, ten minutes for a whole request,
-    /// and a minute for a reply.
+    /// and a minute for a whole reply.
     pub const USUAL: TimeLimits = TimeLimits {
         idle: 900,
         stall: 30,
@@ -51,7 +52,9 @@ fn is_limit(seconds: u32) -> bool
 }
 
 /// So many seconds.
-pub(crate) fn seconds(count: u32) -> Duration {
+pub(crate) fn seconds(count: u32) -> Duration
+    ensures { as_nanos result ≡ count * 1000000000 }
+{
     Duration::from_secs(u64::from(count))
 }
 
@@ -65,7 +68,7 @@ impl fmt::Display for TimeLimits {
         } = *self;
         write!(
             f,
-            "{idle} s between requests, {stall} s within one, {request} s for a whole one, {reply} s for a reply that is not taken"
+            "{idle} s between requests, {stall} s within one, {request} s for a whole one, {reply} s for a whole reply"
         )
     }
 }

@@ -1,8 +1,10 @@
 // How a connection is taken, also after a time at which none could be taken.
 ghost use Rattle.std.specs.Prelude.{◌≡◌, IfErr, IfSome, false};
 ghost use Rattle.std.specs.IoError.{error_kind, raw_os_error};
-ghost use Rattle.tcp_desks.specs.Taking.{EndsTaking, IsReported, is_cut, is_passing, is_signal, is_tried_again, is_want, notices};
+ghost use Rattle.std.specs.Option.{option_map};
+ghost use Rattle.tcp_desks.specs.Taking.{GivesNext, IsReported, is_cut, is_passing, is_signal, is_tried_again, is_want, notices, without_passing};
 
+use apron_base::{Sink, Source};
 use std::io;
 use std::io::ErrorKind;
 use std::sync::Wait;
@@ -11,20 +13,23 @@ use std::time::Duration;
 
 /// Where connections are taken: at the system's listener, or at one that a test makes.
 pub trait Doorway {
-    ghost use Rattle.std.specs.Prelude.{IfSome, List, Option};
+    ghost use Rattle.std.specs.Prelude.{List, Option, Result};
     ghost use Rattle.std.specs.declared.io.Error.{Error};
-    ghost use Rattle.tcp_desks.specs.Taking.{GivesConnection};
+    ghost use Rattle.tcp_desks.specs.Taking.{GivesNext};
 
-    /// The two ends of a connection.
-    type Ends;
+    /// What a connection sends.
+    type In: Source + Drop;
 
-    /// The failures to come before the next connection, if it exposes them.
-    ghost failures: { Self → Option (List Error) };
+    /// What a connection is sent.
+    type Out: Sink + Drop;
 
-    /// Takes the next connection. If there is none it waits. `Err` says why none could be taken.
-    fn take(&mut self) -> io::Result<Self::Ends>
-        ensures gives { IfSome (failures self.old)
-            (λ causes. GivesConnection causes (failures self.new) result) };
+    /// The connections and the failures to come, in their order, if it exposes them.
+    ghost to_come: { Self → Option (List (Result (Self.In × Self.Out) Error)) };
+
+    /// Takes the next connection. If there is none it waits, or fails for a lasting cause. `Err`
+    /// says why none could be taken.
+    fn take(&mut self) -> io::Result<(Self::In, Self::Out)>
+        ensures gives { GivesNext (to_come self.old) (to_come self.new) result };
 }
 
 /// The place to which it reports that no connection could be taken for a time.
@@ -66,11 +71,12 @@ pub fn take_next<R: Wait, D: Doorway, N: Reporter>(
     rt: &R,
     doorway: &mut D,
     reporter: &mut N,
-) -> io::Result<D::Ends>
+) -> io::Result<(D::In, D::Out)>
     ensures lasting { IfErr result (λ cause. is_tried_again cause ≡ false) }
-    ensures ends { IfSome (D.failures doorway.old) (λ causes. EndsTaking causes result) }
-    ensures reports { IfSome (D.failures doorway.old) (λ causes. IsReported
-        (N.reported reporter.old) (N.reported reporter.new) (notices causes)) }
+    ensures gives { GivesNext (option_map without_passing (D.to_come doorway.old))
+        (D.to_come doorway.new) result }
+    ensures reports { IfSome (D.to_come doorway.old) (λ coming. IsReported
+        (N.reported reporter.old) (N.reported reporter.new) (notices coming)) }
 {
     let mut is_reported = false;
     for _ in rt.forever() {

@@ -10,3 +10,4 @@ mod listeners;
 mod shelves;
 mod taking;
 mod tcp;
+mod timed;

@@ -6,7 +6,7 @@ use std::alloc::Global;
 use std::io;
 use std::io::ErrorKind;
 use std::test::Fail;
-use system_files::FileDisk;
+use system_files::{FileDisk, FileOpener, Opening};
 
 const ROOM: Room = Room {
     bytes: 10,
@@ -52,6 +52,47 @@ fn a_read_that_ends_early_is_tried_once_more(rt: HostRuntime) -> Result<(), Fail
         assert!(rt; disk.read(0, &mut []).is_ok() == is_read, "{early}");
     }
     Ok(())
+}
+
+// How long others made a file after the sync of its four bytes, and whether it is then written.
+const MADE: [(u64, bool); 4] = [(0, false), (3, false), (4, true), (9, true)];
+
+#[test]
+fn a_file_that_others_made_shorter_than_what_was_synced_is_not_written(
+    rt: HostRuntime,
+) -> Result<(), Fail> {
+    for (length, is_written) in MADE {
+        let opened = file(rt.alloc(), Held::Nothing, true)?.made_as_long_as(length);
+        let mut disk = FileDisk::to_write(&rt, "a file", Ok(opened));
+        assert!(rt; disk.write_at(0, b"abcd") == Ok(()) && disk.sync() == Ok(()));
+        assert!(rt; disk.write_at(0, b"d").is_ok() == is_written, "{length}");
+    }
+    Ok(())
+}
+
+// A place that opens one file as it is asked to.
+#[derive(Drop)]
+struct Place {
+    alloc: Global,
+}
+
+impl<'a> FileOpener<'a> for &Place {
+    type File = MemoryFile;
+
+    fn open(&self, _path: &'a str, opening: Opening) -> io::Result<MemoryFile> {
+        Ok(file(self.alloc, Held::Nothing, true)?.opened(opening))
+    }
+}
+
+#[test]
+fn a_file_is_opened_to_be_written_or_to_be_read(rt: HostRuntime) {
+    let place = Place { alloc: rt.alloc() };
+    let mut written = FileDisk::open(&rt, &place, "a file");
+    assert!(rt; written.write_at(0, b"d") == Ok(()));
+    let mut made = FileDisk::make(&rt, &place, "a file");
+    assert!(rt; made.write_at(0, b"d") == Ok(()));
+    let mut read = FileDisk::open_to_read(&rt, &place, "a file");
+    assert!(rt; read.write_at(0, b"d") == Err(Failed));
 }
 
 #[test]

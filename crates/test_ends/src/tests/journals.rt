@@ -121,7 +121,7 @@ const PATH: &str = "entries.journal";
 
 // Makes a journal in a file, and puts two entries in it.
 fn make_file<R: Files<File = File> + Eprint>(rt: &R, alloc: Global) -> Result<(), JournalFault> {
-    let mut disk = FileDisk::make(rt, PATH);
+    let mut disk = FileDisk::make(rt, rt, PATH);
     init(&mut disk, &DIGESTS)?;
     let (mut counted, _) = Counted::open(alloc, disk)?;
     counted.append(&[1; 25])?;
@@ -144,14 +144,14 @@ fn read_file<R: Files<File = File> + Eprint>(
     rt: &R,
     alloc: Global,
 ) -> Result<(bool, u32), JournalFault> {
-    let (counted, entries) = Counted::open(alloc, FileDisk::open(rt, PATH))?;
+    let (counted, entries) = Counted::open(alloc, FileDisk::open(rt, rt, PATH))?;
     let length = counted.journal.into_disk().length()?;
     Ok((are_two(&entries), length))
 }
 
 #[test]
 fn entries_in_a_file_are_found_again(rt: HostRuntime) -> Result<(), Fail> {
-    assert!(rt; FileDisk::open(&rt, PATH).length() == Err(Failed));
+    assert!(rt; FileDisk::open(&rt, &rt, PATH).length() == Err(Failed));
     make_file(&rt, rt.alloc())?;
     assert!(rt; read_file(&rt, rt.alloc()) == Ok((true, 133)));
     fs::remove_file(&rt, PATH)?;
@@ -162,18 +162,18 @@ const SHARED: &str = "shared.journal";
 
 // Whether a reader can have the file at the path, and whether a writer can.
 fn can_be_had<R: Files<File = File> + Eprint>(rt: &R) -> (bool, bool) {
-    let is_read = FileDisk::open_to_read(rt, SHARED).length().is_ok();
-    let is_written = FileDisk::open(rt, SHARED).length().is_ok();
-    let is_made = FileDisk::make(rt, SHARED).length().is_ok();
+    let is_read = FileDisk::open_to_read(rt, rt, SHARED).length().is_ok();
+    let is_written = FileDisk::open(rt, rt, SHARED).length().is_ok();
+    let is_made = FileDisk::make(rt, rt, SHARED).length().is_ok();
     (is_read, is_written && is_made)
 }
 
 #[test]
 fn a_file_has_one_writer_or_readers(rt: HostRuntime) -> Result<(), Fail> {
-    let writer = FileDisk::make(&rt, SHARED);
+    let writer = FileDisk::make(&rt, &rt, SHARED);
     assert!(rt; can_be_had(&rt) == (false, false));
     drop(writer);
-    let reader = FileDisk::open_to_read(&rt, SHARED);
+    let reader = FileDisk::open_to_read(&rt, &rt, SHARED);
     assert!(rt; can_be_had(&rt) == (true, false));
     drop(reader);
     assert!(rt; can_be_had(&rt) == (true, true));
@@ -184,7 +184,7 @@ fn a_file_has_one_writer_or_readers(rt: HostRuntime) -> Result<(), Fail> {
 #[test]
 fn a_file_that_is_read_alone_is_synced_and_not_written(rt: HostRuntime) -> Result<(), Fail> {
     fs::write(&rt, "read.journal", b"abc")?;
-    let mut disk = FileDisk::open_to_read(&rt, "read.journal");
+    let mut disk = FileDisk::open_to_read(&rt, &rt, "read.journal");
     assert!(rt; disk.sync() == Ok(()) && disk.length() == Ok(3));
     assert!(rt; disk.write_at(0, b"d") == Err(Failed));
     fs::remove_file(&rt, "read.journal")?;
@@ -194,7 +194,7 @@ fn a_file_that_is_read_alone_is_synced_and_not_written(rt: HostRuntime) -> Resul
 #[test]
 fn a_file_that_is_moved_or_replaced_is_not_written(rt: HostRuntime) -> Result<(), Fail> {
     fs::write(&rt, "here", b"abc")?;
-    let mut disk = FileDisk::open(&rt, "here");
+    let mut disk = FileDisk::open(&rt, &rt, "here");
     assert!(rt; disk.is_open() && disk.write_at(3, b"d") == Ok(()));
     fs::rename(&rt, "here", "there")?;
     assert!(rt; disk.write_at(4, b"e") == Err(Failed));
@@ -206,12 +206,31 @@ fn a_file_that_is_moved_or_replaced_is_not_written(rt: HostRuntime) -> Result<()
     Ok(())
 }
 
+// A copy of an earlier journal over the file is shorter than what was synced. A longer one is not
+// noticed, and a write alone, which no sync confirmed, asks for no length.
+#[test]
+fn a_file_that_became_shorter_than_what_was_synced_is_not_written(
+    rt: HostRuntime,
+) -> Result<(), Fail> {
+    fs::write(&rt, "whole", b"abc")?;
+    let mut disk = FileDisk::open(&rt, &rt, "whole");
+    assert!(rt; disk.write_at(3, b"de") == Ok(()));
+    fs::write(&rt, "whole", b"abc")?;
+    assert!(rt; disk.write_at(3, b"de") == Ok(()) && disk.sync() == Ok(()));
+    fs::write(&rt, "whole", b"abcd")?;
+    assert!(rt; disk.write_at(4, b"f") == Err(Failed) && disk.length() == Ok(4));
+    fs::write(&rt, "whole", b"abcdef")?;
+    assert!(rt; disk.write_at(6, b"g") == Ok(()) && disk.length() == Ok(7));
+    fs::remove_file(&rt, "whole")?;
+    Ok(())
+}
+
 #[test]
 fn a_folder_and_a_device_are_no_files(rt: HostRuntime) {
     for path in [".", "/dev/null"] {
-        assert!(rt; !FileDisk::open(&rt, path).is_open(), "{path}");
-        assert!(rt; !FileDisk::open_to_read(&rt, path).is_open(), "{path}");
-        assert!(rt; !FileDisk::make(&rt, path).is_open(), "{path}");
+        assert!(rt; !FileDisk::open(&rt, &rt, path).is_open(), "{path}");
+        assert!(rt; !FileDisk::open_to_read(&rt, &rt, path).is_open(), "{path}");
+        assert!(rt; !FileDisk::make(&rt, &rt, path).is_open(), "{path}");
     }
 }
 

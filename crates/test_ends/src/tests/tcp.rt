@@ -114,8 +114,7 @@ fn the_address_can_be_bound_again_at_once(rt: HostRuntime) -> Result<(), Fail> {
     Ok(())
 }
 
-// One second within a request, and for a reply that is not taken; more between requests and for a
-// whole request.
+// One second within a request, and for a whole reply; more between requests and for a whole request.
 const SHORT: TimeLimits = TimeLimits {
     idle: 2,
     stall: 1,

@@ -12,11 +12,9 @@ const THREE: &[u8] =
     b"POST /visits HTTP/1.1\r\nContent-Length: 56\r\n\r\n{\"name\":\"V1\",\"type\":\"A320\",\"class\":3,\"on\":600,\"off\":660}POST /visits HTTP/1.1\r\nContent-Length: 56\r\n\r\n{\"name\":\"V2\",\"type\":\"A320\",\"class\":3,\"on\":600,\"off\":660}POST /visits HTTP/1.1\r\nContent-Length: 56\r\n\r\n{\"name\":\"V3\",\"type\":\"A320\",\"class\":3,\"on\":600,\"off\":660}";
 
 // How many entries a desk begins with, at least and at most, if it stopped after a number of calls
-// of the disk, one row for each number. Five calls open the journal, and then each entry has four:
+// of the disk, one row for each number. Three calls open the journal, and then each entry has four:
 // the third opens its gate and the fourth makes that safe.
-const EACH_DONE: [(usize, usize); 18] = [
-    (0, 0),
-    (0, 0),
+const EACH_DONE: [(usize, usize); 16] = [
     (0, 0),
     (0, 0),
     (0, 0),
@@ -36,9 +34,7 @@ const EACH_DONE: [(usize, usize); 18] = [
 ];
 
 // The same for two entries.
-const TWO_DONE: [(usize, usize); 14] = [
-    (0, 0),
-    (0, 0),
+const TWO_DONE: [(usize, usize); 12] = [
     (0, 0),
     (0, 0),
     (0, 0),
@@ -55,9 +51,7 @@ const TWO_DONE: [(usize, usize); 14] = [
 
 // The same for three entries if the call failed that opens the first gate: the next two calls close
 // the gate again and make that safe.
-const GATE_FAILED: [(usize, usize); 19] = [
-    (0, 0),
-    (0, 0),
+const GATE_FAILED: [(usize, usize); 17] = [
     (0, 0),
     (0, 0),
     (0, 0),
@@ -78,9 +72,7 @@ const GATE_FAILED: [(usize, usize); 19] = [
 ];
 
 // The same if the call failed that makes it safe.
-const SYNC_FAILED: [(usize, usize); 20] = [
-    (0, 0),
-    (0, 0),
+const SYNC_FAILED: [(usize, usize); 18] = [
     (0, 0),
     (0, 0),
     (0, 0),
@@ -147,8 +139,8 @@ type Stops = (
 const EACH_STOPS: [Stops; 4] = [
     ("two entries", FIRST, &[], &TWO_DONE),
     ("three entries", THREE, &[], &EACH_DONE),
-    ("a gate that fails", THREE, &[7], &GATE_FAILED),
-    ("a gate that is not made safe", THREE, &[8], &SYNC_FAILED),
+    ("a gate that fails", THREE, &[5], &GATE_FAILED),
+    ("a gate that is not made safe", THREE, &[6], &SYNC_FAILED),
 ];
 
 // `Err` if a desk does not begin as it has to after one of these stops, if there are other stops,

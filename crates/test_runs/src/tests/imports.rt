@@ -106,8 +106,8 @@ fn import_failing(alloc: Global, call: u64) -> Result<Option<bool>, Memory> {
     Ok((done && (fails || ended.status == 0)).then_some(fails))
 }
 
-// An opening makes five calls, and each of the two entries four.
-const CALLS: u64 = 13;
+// An opening makes three calls, and each of the two entries four.
+const CALLS: u64 = 11;
 
 #[test]
 fn an_import_whose_disk_fails_is_done_by_a_second_one(rt: HostRuntime) -> Result<(), Fail> {

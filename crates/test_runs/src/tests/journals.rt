@@ -166,23 +166,23 @@ const THIRD: &str =
     "HTTP/1.1 200 OK\r\nContent-Type: application/json\r\nContent-Length: 23\r\nX-Version: 3\r\n\r\n{\"version\":3,\"visit\":3}";
 
 // The calls that fail, the replies to the three visits and to the question, and how many calls of
-// the disk were made. Opening makes five, an append four, and two before them if the third or the
+// the disk were made. Opening makes three, an append four, and two before them if the third or the
 // fourth of the append before failed.
 const APPENDS: [(&[u64], [&str; 4], usize); 14] = [
-    (&[], [ONE, TWO, THIRD, AT_THREE], 17),
-    (&[5], [FAILED, ONE, TWO, AT_TWO], 14),
-    (&[6], [FAILED, ONE, TWO, AT_TWO], 15),
-    (&[7], [FAILED, ONE, TWO, AT_TWO], 18),
-    (&[8], [FAILED, ONE, TWO, AT_TWO], 19),
-    (&[9], [ONE, FAILED, TWO, AT_TWO], 14),
-    (&[10], [ONE, FAILED, TWO, AT_TWO], 15),
-    (&[11], [ONE, FAILED, TWO, AT_TWO], 18),
-    (&[12], [ONE, FAILED, TWO, AT_TWO], 19),
-    (&[16], [ONE, TWO, FAILED, AT_TWO], 17),
-    (&[8, 9], [FAILED, FAILED, ONE, AT_ONE], 16),
-    (&[8, 10], [FAILED, FAILED, ONE, AT_ONE], 17),
-    (&[5, 6, 7], [FAILED, FAILED, FAILED, AT_NONE], 8),
-    (&[8, 9, 10], [FAILED, FAILED, FAILED, AT_NONE], 11),
+    (&[], [ONE, TWO, THIRD, AT_THREE], 15),
+    (&[3], [FAILED, ONE, TWO, AT_TWO], 12),
+    (&[4], [FAILED, ONE, TWO, AT_TWO], 13),
+    (&[5], [FAILED, ONE, TWO, AT_TWO], 16),
+    (&[6], [FAILED, ONE, TWO, AT_TWO], 17),
+    (&[7], [ONE, FAILED, TWO, AT_TWO], 12),
+    (&[8], [ONE, FAILED, TWO, AT_TWO], 13),
+    (&[9], [ONE, FAILED, TWO, AT_TWO], 16),
+    (&[10], [ONE, FAILED, TWO, AT_TWO], 17),
+    (&[14], [ONE, TWO, FAILED, AT_TWO], 15),
+    (&[6, 7], [FAILED, FAILED, ONE, AT_ONE], 14),
+    (&[6, 8], [FAILED, FAILED, ONE, AT_ONE], 15),
+    (&[3, 4, 5], [FAILED, FAILED, FAILED, AT_NONE], 6),
+    (&[6, 7, 8], [FAILED, FAILED, FAILED, AT_NONE], 9),
 ];
 
 #[test]

@@ -5,6 +5,7 @@ use Rattle.apron_run.proofs.journal.open_journal.Goals as goal
 pub returns-in-Err-clause-refused : goal.returns-in-Err-clause-refused
 returns-in-Err-clause-refused g c = record {
   stays = c.in-Err.ensures.stays;
+  syncs = c.in-Err.ensures.unwritten;
   cause = c.in-Err.ensures.refused;
 }
 
@@ -18,24 +19,3 @@ new-requires g c = record {
       c.in-Ok.ensures.keeper;
   at_risk = let keeper = c.in-Ok.ensures.keeper in keeper.at_risk;
 }
-
-pub returns-in-Err-open_to_append-clause-refused : goal.returns-in-Err-open_to_append-clause-refused
-returns-in-Err-open_to_append-clause-refused g c =
-    let met = c.in-Err-open_to_append in
-    record {
-      stays = met.ensures.stays;
-      cause = met.ensures.refused;
-    }
-
-pub new-requires-in-Ok-open_to_append : goal.new-requires-in-Ok-open_to_append
-new-requires-in-Ok-open_to_append g c =
-    let met = c.in-Ok-open_to_append in
-    record {
-      digests = let stays = met.ensures.stays in
-          opened_of g.N.OfFiles.digests c.args.files.now.digests (g.D.Disk.state c.args.disk) (g.D.Disk.state met.journal.disk) met.entries.items c.requires.digests
-          met.ensures.opened stays.contents;
-      fronts = fronts_opened g.N.OfFiles.digests c.args.files.now.digests g.N.OfFiles.begun (g.D.Disk.state c.args.disk) (g.D.Disk.state met.journal.disk)
-          met.journal.extent met.entries.items c.requires.digests c.requires.begun met.ensures.opened met.ensures.stays met.ensures.durable
-          met.ensures.keeper;
-      at_risk = let keeper = met.ensures.keeper in keeper.at_risk;
-    }

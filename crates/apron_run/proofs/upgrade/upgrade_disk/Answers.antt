@@ -18,7 +18,7 @@ returns-in-Err g c =
     let after = g.D.Disk.state c.in-Err.disk in
     record {
       does = λ shelf source sink. disk_used (run_world shelf source sink before) after
-          (not_opened c.args.files.now before after c.in-Err.fault c.in-Err.ensures.refused c.in-Err.ensures.stays);
+          (not_opened c.args.files.now before after c.in-Err.fault c.in-Err.ensures.refused c.in-Err.ensures.stays c.in-Err.ensures.unwritten);
     }
 
 pub returns-in-Ok-switched : goal.returns-in-Ok-switched

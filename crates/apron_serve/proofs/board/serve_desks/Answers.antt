@@ -5,7 +5,8 @@ use Rattle.history_core.specs.Board.{machine_state}
 use Rattle.watch_list.specs.declared.watch.Watched.{Watched}
 use Rattle.desk_workers.specs.Crew.{ServesBoard}
 use Rattle.desk_workers.specs.Watched.{fed_sessions, feed_texts}
-use Rattle.journal_disk.specs.Disk.{Stays}
+use Rattle.journal_disk.specs.Disk.{OnlySyncs, Stays}
+use Rattle.journal_disk.proofs.Tells.{only_both}
 use Rattle.apron_run.specs.Journal.{KeepsHistory}
 use Rattle.apron_run.specs.Opened.{journal_tells}
 use Rattle.apron_run.specs.Survival.{Survives}
@@ -72,6 +73,10 @@ returns-in-Err-served g c =
             (opened_from (journal_tells g.D.Disk.state) c.args.files.now begun opened c.in-Ok.board.board c.requires.begun c.in-Ok.ensures.opened)
             (stays_both begun opened (g.D.Disk.state c.close_board-in-Err-served.result) (let unwritten = c.requires.begun in unwritten.stays)
             (subst (λ d. Stays opened (g.D.Disk.state d)) (sym same) c.in-Ok.ensures.stays))
+            (let unwritten = c.requires.begun in
+            let stays = unwritten.stays in
+            only_both begun opened (g.D.Disk.state c.close_board-in-Err-served.result) unwritten.syncs stays.contents
+            (subst (λ d. OnlySyncs opened (g.D.Disk.state d)) (sym same) c.in-Ok.ensures.unwritten))
             (ap (λ d. (g.D.Disk.state d).faults) same);
       });
       unserved = refused.0;

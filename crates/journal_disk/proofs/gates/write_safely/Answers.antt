@@ -1,8 +1,8 @@
 use Rattle.std.proofs.Common.{◌∙◌, ◌++◌, ◌∷◌, [], List, ap, append_assoc}
 use Rattle.std.specs.Option.{option_map}
-use Rattle.journal_disk.specs.Disk.{DoneCall, with_piece_at, Same}
+use Rattle.journal_disk.specs.Disk.{DoneCall, with_piece_at}
 use Rattle.journal_disk.specs.Disk.DoneCall.{DoneSync}
-use Rattle.journal_disk.proofs.Moments.{goes_both, goes_synced}
+use Rattle.journal_disk.proofs.Moments.{goes_synced}
 use Rattle.journal_disk.proofs.Tells.{on_ok}
 use Rattle.journal_disk.proofs.gates.write_safely.Goals as goal
 
@@ -11,9 +11,6 @@ returns-clause-crash g c = goes_synced _ _ _ _ _ c.write_at.ensures.crash c.sync
 
 pub returns-clause-safe : goal.returns-clause-safe
 returns-clause-safe g c = on_ok c.sync.result c.sync.ensures.durable (λ safe bytes is. safe _ (c.in_ok-write_at.ensures.written ∙ ap (option_map (with_piece_at c.args.at c.args.piece.now)) is))
-
-pub returns-clause-again : goal.returns-clause-again
-returns-clause-again g c = λ there. goes_both Same (λ x y z first second. second ∙ first) _ _ _ (c.write_at.ensures.again there) c.sync.ensures.stays.crash
 
 pub returns-clause-done : goal.returns-clause-done
 returns-clause-done g c = on_ok c.sync.result c.sync.ensures.done (λ did bytes is.

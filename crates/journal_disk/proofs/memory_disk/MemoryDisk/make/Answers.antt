@@ -1,5 +1,5 @@
 use Rattle.std.proofs.Common.{refl}
-use Rattle.journal_disk.proofs.Replay.{after_calls-push, done_calls-push, failed-goes, failed-reads, goes-push}
+use Rattle.journal_disk.proofs.Replay.{after_calls-push, done_calls-push, failed-goes, failed-reads, failed-undone, goes-push}
 use Rattle.journal_disk.proofs.memory_disk.MemoryDisk.make.Goals as goal
 
 pub returns-then-is_to_fail-clause-same : goal.returns-then-is_to_fail-clause-same
@@ -11,6 +11,10 @@ returns-then-is_to_fail-clause-crash c =
     let faults = c.fail-then-is_to_fail.new.self.faults in
     rw (c.fail-then-is_to_fail.ensures.kept, c.put.ensures.kept, c.failed_call.ensures.call)
     (failed-goes c.args.self.now.first c.args.self.now.calls c.args.call c.args.piece.now c.args.self.now.faults faults)
+
+pub returns-then-is_to_fail-clause-undone : goal.returns-then-is_to_fail-clause-undone
+returns-then-is_to_fail-clause-undone c =
+    rw (c.fail-then-is_to_fail.ensures.kept, c.put.ensures.kept, c.failed_call.ensures.call, done_calls-push) (failed-undone c.args.call c.args.piece.now _)
 
 pub returns-clause-reads : goal.returns-clause-reads
 returns-clause-reads c = rw (c.put-2.ensures.kept, after_calls-push) refl
