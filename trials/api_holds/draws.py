@@ -140,7 +140,13 @@ class Draws:
         entry = self.draw.randint(1, max(1, self.version)) if self.draw.random() < 0.9 else self.version + 2000
         return Drawn("GET", self.pick(
             "/version", "/unplaced", "/airport", f"/visits/{self.number() or 1}", f"/plan/{day}", f"/chart/{day}", f"/day/{day}", f"/entries/{entry}",
+            f"/sight/{self.window()}", f"/sight/{self.window()}/{self.window()}", f"/history/{self.pick(0, entry)}",
             f"/feeds/{self.draw.choices(['ALL', 'HIGH', 'NONE'], [5, 5, 1])[0]}/{after}"))
+
+    def window(self):
+        """Two minutes of a target: mostly a window of a picture."""
+        begin = self.draw.choices([self.draw.randint(0, self.airport.minutes), 0, 62655, 65535], [90, 5, 3, 2])[0]
+        return f"{begin}/{begin + self.draw.choices([self.draw.randint(1, 2880), 2880, 2881, 0], [85, 5, 5, 5])[0]}"
 
     # Requests with a change that is mostly a fault
 
@@ -173,6 +179,9 @@ class Draws:
         word = target.split("/")[1]
         if change in ("number", "day") and target.count("/") == 2:
             return f"/{word}/" + self.pick("0", "01", "4294967296", "4294967295", "99999999999", "x", "", "1/1", "-1", "+1", "٣")
+        if target.startswith("/sight/"):
+            wrong = self.pick("0", "00", "01", "4294967296", "4294967295", "x", "", "-1", "1/1", "٣")
+            return target[:target.rindex("/") + 1] + wrong
         if target.startswith("/feeds"):
             return "/feeds/" + self.pick("all/0", "ALL/00", "ALL", "ALL/0/0", "/0", "THIRTEEN-CHAR/0", "ALL/4294967296")
         return self.pick(target.upper(), "/stands", "*", "/", "/visits", "http://apron/version", "/vérsion")

@@ -10,6 +10,8 @@ CHARTED, REPORTED, LAST_REPORTS = 3000, 6000, 100
 # How many are reported on one stand, if each of them meets as many of the others, and how many minutes lie between two of them.
 FEW_REPORTED, APART = 300, 3
 HELD, A_PART = 200, 0.2
+# How many visits come to each stand in two days, and how many of them are on block there.
+PICTURED, PRESENT, TWO_DAYS = 20, 2, 2880
 
 
 def reported(room, times, reports):
@@ -82,6 +84,26 @@ def waiting(room):
     for number in range(1, MOST_VISITS + 1):
         on = 60 + number * 7919 % 2500
         yield visit_of(f"V{number}", room.type(), number * 31 % 10, on, on + 60 + number % 400)
+
+
+def pictured(room):
+    """Visits of two days on stands, of which the first ones never leave."""
+    stands = room.apart()
+    visits = [(stand, 60 + turn * TWO_DAYS // PICTURED) for turn in range(PICTURED) for stand in stands]
+    yield from (visit_of(f"V{number}", room.type(), 3, on, on + 60) for number, (_, on) in enumerate(visits, 1))
+    yield from (on_block_of(number, 1, stand, on) for number, (stand, on) in enumerate(visits[:PRESENT * len(stands)], 1))
+
+
+def sights(program, folder):
+    """A picture of two days with two aircraft on each stand costs at most half as much again as the visits of both days."""
+    room, targets = Room(folder, "large"), ("/day/1", "/day/2", f"/sight/0/{TWO_DAYS}")
+    with Desk(program, room.files, room.journal("pictured", lambda: pictured(room))) as desk:
+        picture = desk.ask([request("GET", targets[-1])])[0]
+        assert picture.count(b'"rule":"same"') == len(room.apart()), "the picture has other conflicts"
+        one, other, both = (desk.cost([request("GET", target)] * 50) for target in targets)
+    yield Figure(f"GET {targets[-1]} of {PICTURED * len(room.apart())} visits", both / 1000, "ms")
+    yield Figure("the visits of both days", (one + other) / 1000, "ms")
+    yield Figure("the one, of the other", both / (one + other), "times", most=1.5)
 
 
 def lists(program, folder):

@@ -13,7 +13,7 @@ import time
 
 from shared import served
 from shared.stand_plan import COMMANDS, Accepted, Plan, compact, request_of
-from stand_planning.rules import MOST
+from stand_planning.rules import DAY, MOST
 
 OWN_VISITS = 12
 SHARED_VISITS = 16
@@ -56,9 +56,12 @@ class Desk:
             return "add", self.shared_visit(self.draw.randint(1, SHARED_VISITS))
         if drawn < 0.825:
             return "cancel", {"visit": self.draw.randint(1, self.visits + 1)}
+        begin = self.draw.randint(0, self.airport.minutes)
         return self.draw.choice([
+            ("picture", {"from": begin, "to": begin + self.draw.randint(1, 2 * DAY)}),
             ("version_of", {}), ("unplaced", {}), ("day", {"day": self.draw.randint(1, self.airport.days)}),
             ("read", {"visit": self.draw.randint(1, self.visits + 2)}), ("entry", {"entry": self.draw.randint(1, self.seen + 2)}),
+            ("digest", {"entries": self.draw.randint(0, self.seen + 2)}),
             ("airport_of", {}), ("visits_of_day", {"day": self.draw.randint(1, self.airport.days)})])
 
     def visit(self, name):
@@ -229,6 +232,7 @@ def reads_of(plan):
     """Asks that read all of a plan."""
     asks = [("version_of", {}, 0), ("unplaced", {}, 0)]
     asks += [(kind, {"day": day}, 0) for kind in ("day", "visits_of_day") for day in range(1, plan.airport.days + 1)]
+    asks += [("picture", {"from": day * DAY, "to": (day + 1) * DAY}, 0) for day in range(plan.airport.days)]
     asks += [("airport_of", {}, 0)] + [("entry", {"entry": entry}, 0) for entry in range(1, plan.version + 2)]
     return asks + [("read", {"visit": visit}, 0) for visit in range(1, len(plan.visits) + 1)]
 

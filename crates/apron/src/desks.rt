@@ -34,10 +34,10 @@ pub(crate) fn are_asked(words: &[Word]) -> bool {
 /// lock no address is taken. A line about a fault goes to the sink. Standard error says where it
 /// listens once the journal is open, and how it ended. `threads` is the runtime too, as the handle
 /// by which workers start and wait.
-pub(crate) fn serve_words<'a, T: Wait + Threads + Sync, W: Sink>(
+pub(crate) fn serve_words<T: Wait + Threads + Sync, W: Sink>(
     threads: &T,
-    rt: &'a HostRuntime,
-    words: &'a [Word],
+    rt: &HostRuntime,
+    words: &[Word],
     watches: &Watches<Shown, Shown>,
     sink: &mut W,
 ) -> u8 {
@@ -71,7 +71,7 @@ pub(crate) fn serve_words<'a, T: Wait + Threads + Sync, W: Sink>(
 }
 
 // Serves the desks and the screens of these listeners on the journal of the disk.
-fn serve_on<T: Wait + Threads + Sync, W: Sink, D: Disk + Drop + Send>(
+fn serve_on<T: Wait + Threads + Sync, W: Sink, D: Disk + Send>(
     threads: &T,
     rt: &HostRuntime,
     order: ServeWords<'_>,

@@ -109,9 +109,9 @@ fn run_program(rt: &HostRuntime, words: &[Word], watches: &Watches<Shown, Shown>
 
 // Words that have a journal have its path last. Others get no disk, and so does an empty list of
 // words, which stands for words that are too few or too many.
-fn run_with_journal<'a>(
-    rt: &'a HostRuntime,
-    words: &'a [Word],
+fn run_with_journal(
+    rt: &HostRuntime,
+    words: &[Word],
     watches: &Watches<Shown, Shown>,
     front: &Cell<Front>,
 ) -> u8 {

@@ -5,7 +5,7 @@ ghost use Rattle.desk_asks.specs.Commands.{AsksCommand, desk_of, kind_of};
 use apron_base::{Memory, Name, VisitNo};
 use mvt_grammar::Mvt;
 use std::alloc::Global;
-use visit_book::{Draft, Event, NewVisit};
+use visit_book::{Draft, Event, NewVisit, Windows};
 
 /// What may change the plan.
 #[derive(Debug, Drop)]
@@ -116,6 +116,10 @@ pub enum What {
     Airport,
     /// The visits that hold a stand or wait for one on this day, counted from 1.
     Day(u32),
+    /// The aircraft on block, and the visits that hold a stand or wait for one in these minutes.
+    Sight(Windows),
+    /// The digest of the history's first entries, this many.
+    History(u32),
 }
 
 /// What a desk asks with one request.
@@ -142,6 +146,8 @@ impl Ask {
             What::Entry(number) => What::Entry(*number),
             What::Airport => What::Airport,
             What::Day(day) => What::Day(*day),
+            What::Sight(windows) => What::Sight(*windows),
+            What::History(entries) => What::History(*entries),
         };
         Ok(Ask {
             seen: self.seen,

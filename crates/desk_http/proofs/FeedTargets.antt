@@ -11,8 +11,8 @@ use Rattle.std.proofs.lemmas.List.{take-append-drop}
 use Rattle.std.proofs.lemmas.Slice.Eq.{bytes_eq-Decides}
 use Rattle.matchit.specs.Seek.{has_slash}
 use Rattle.desk_bodies.specs.Commits.{if_name}
-use Rattle.desk_http.specs.FeedTargets.{feed_named, feed_of, feed_of_pieces, version_written}
-use Rattle.desk_http.specs.Targets.{pieces, plain_number, slash}
+use Rattle.desk_http.specs.FeedTargets.{feed_named, feed_of, feed_of_pieces}
+use Rattle.desk_http.specs.Targets.{number_from_zero, pieces, plain_number, slash}
 use Rattle.desk_http.specs.declared.port.Feed.{Feed}
 use Rattle.desk_http.proofs.Pieces.{IsSome, first_slash, joined, joined-pieces, no_slash, one_piece, pieces-some, plain_number-digits}
 use Rattle.desk_http.proofs.Takes.{by}
@@ -27,7 +27,7 @@ digits-cut (byte ∷ text) e =
     let other : (byte == 47) ≡ false = grind (arith, nat_tests) in
     rw other (digits-cut text parts.1)
 
-version-cut : (text : List ℕ) (n : ℕ) → version_written text ≡ Some n → pieces text ≡ text ∷ []
+version-cut : (text : List ℕ) (n : ℕ) → number_from_zero text ≡ Some n → pieces text ≡ text ∷ []
 version-cut text n e =
     by (λ v. cond v (Some 0) (plain_number text) ≡ Some n → pieces text ≡ text ∷ []) (bytes_eq text (codes "0"))
     (λ zero _. subst (λ t. pieces t ≡ t ∷ []) (sym ((bytes_eq-Decides text (codes "0")).0 zero)) refl)
@@ -38,9 +38,9 @@ version-cut text n e =
 abbrev named_after : List ℕ → Option ℕ → Option Feed
 named_after watch version = option_map (λ after. record { watch = watch; after = after }) version
 
-no_version : (name version : List ℕ) → version_written version ≡ None → feed_named name version ≡ None
+no_version : (name version : List ℕ) → number_from_zero version ≡ None → feed_named name version ≡ None
 no_version name version e =
-    elim (if_name name) as (λ found. option_and_then (λ watch. named_after watch (version_written version)) found ≡ None) [
+    elim (if_name name) as (λ found. option_and_then (λ watch. named_after watch (number_from_zero version)) found ≡ None) [
       | None ↦ refl
       | Some watch ↦ ap (named_after watch) e
     ]
@@ -50,7 +50,7 @@ with_version : (name version : List ℕ) (ps : List (List ℕ)) → pieces versi
 with_version name version [] e = absurd (subst IsSome e (pieces-some version))
 with_version name version (piece ∷ []) e = ap (feed_named name) (sym (joined-pieces version) ∙ ap joined e)
 with_version name version (piece ∷ next ∷ more) e =
-    elim (version_written version) as (λ o. version_written version ≡ o → feed_named name version ≡ None) [
+    elim (number_from_zero version) as (λ o. number_from_zero version ≡ o → feed_named name version ≡ None) [
       | None ↦ λ none. no_version name version none
       | Some n ↦ λ is. (let whole = version-cut version n is in absurd (cc))
     ] refl

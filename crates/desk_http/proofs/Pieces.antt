@@ -1,5 +1,5 @@
 -- The route of a target by its pieces, and by the row whose pattern takes it.
-use Rattle.std.proofs.Common.{◌≡◌, ◌∙◌, ◌+◌, ◌==◌, ◌&&◌, not, inl, inr, ℕ, ◌<◌, suc, true, false, true≢false, cond, Bool, List, [], ◌∷◌, ◌++◌, append-nil, append_assoc, bytes_eq, map, take, drop, Option, Some, None, refl, sym, ap, ap₂, subst, arith}
+use Rattle.std.proofs.Common.{MatchOption, is_some, ◌≡◌, ◌∙◌, ◌+◌, ◌==◌, ◌&&◌, not, inl, inr, ℕ, ◌<◌, zero, suc, true, false, true≢false, cond, Bool, List, [], ◌∷◌, ◌++◌, ◌⊎◌, append-nil, bytes_eq, codes, flat_map, get_or, length, map, take, drop, Option, Some, None, refl, sym, ap, ap₂, subst, arith}
 use Rattle.std.specs.Prelude.{position}
 use Rattle.std.specs.Option.{option_and_then, option_map, option_map_or}
 use Rattle.std.specs.Char.{is_ascii_digit}
@@ -16,9 +16,11 @@ use Rattle.matchit.specs.Seek.{has_slash}
 use Rattle.apron_base.specs.Digits.{are_digits, most_digits, number_of}
 use Rattle.desk_http.specs.Numbers.{within_32_bits}
 use Rattle.desk_http.specs.Table.{text_after_word}
-use Rattle.desk_http.specs.Targets.{Parameter, look_up, numbered, onto_first, pieces, plain_number, route_of, route_of_pieces, route_with, routes_of_words, routes_with_text, slash, zero_digit}
+use Rattle.visit_book.specs.declared.sights.Window.{Window}
+use Rattle.visit_book.specs.declared.sights.Windows.{Windows}
+use Rattle.desk_http.specs.Targets.{Parameter, look_up, number_from_zero, numbered, onto_first, pieces, plain_number, route_of, route_of_pieces, route_with, routes_of_words, routes_with_text, slash, versioned, window_of, windowed, windows_of, zero_digit}
 use Rattle.desk_http.specs.declared.targets.Route.{Route}
-use Rattle.desk_http.proofs.Rows.{In-left, In-map, In-right, IsOn, IsOnRow, Row, end_of, front_ascii, is_ascii, rows, same_in, text_row, word_row}
+use Rattle.desk_http.proofs.Rows.{In-flat_map, In-left, In-map, In-right, IsOn, IsOnRow, Row, end_of, is_ascii, number_row, reader, rows, same_in, text_rows, version_row, windows_row, word_ascii, word_row}
 use Rattle.desk_http.proofs.Takes.{In, by, takes, takes_on, takes_on-nil}
 
 -- ---- pieces and the target that they are of
@@ -116,30 +118,55 @@ first_slash text at e =
     let next : suc cut.count ≡ at + 1 = omega (arith, same) in
     cut.cut ∙ ap₂ (λ m n. take m text ∷ pieces (drop n text)) same next
 
+pub given_none : {A : Type 0} (found : Option A) (P : Type 0) (Q : A → Type 0) → found ≡ None → P → MatchOption found P Q
+given_none None P Q e p = p
+given_none (Some x) P Q e p = absurd (cc)
+
+pub given_some : {A : Type 0} (found : Option A) (P : Type 0) (Q : A → Type 0) → is_some found ≡ true → MatchOption found P Q → (x : A) × Q x
+given_some None P Q e h = absurd (true≢false (sym e))
+given_some (Some x) P Q e h = (x, h)
+
+-- five texts or more give no windows
+pub too_many : (from to later end rest : List ℕ) → windows_of (from ∷ (to ∷ (later ∷ (end ∷ pieces rest)))) ≡ None
+too_many from to later end rest = by_pieces (pieces rest) (pieces-some rest)
+  where
+    by_pieces : (ps : List (List ℕ)) → IsSome ps → windows_of (from ∷ (to ∷ (later ∷ (end ∷ ps)))) ≡ None
+    by_pieces [] h = absurd h
+    by_pieces (p ∷ ps) h = refl
+
 -- ---- the route of a target of a row
 
--- the text goes on with the last piece
-abbrev onto_last : List (List ℕ) → List ℕ → List (List ℕ)
-onto_last [] text = []
-onto_last (piece ∷ []) text = (piece ++ text) ∷ []
-onto_last (piece ∷ next ∷ more) text = piece ∷ onto_last (next ∷ more) text
+-- texts, each with a slash before it
+abbrev slashed : List (List ℕ) → List ℕ
+slashed [] = []
+slashed (text ∷ texts) = 47 ∷ (text ++ slashed texts)
 
-last-slash : (ps : List (List ℕ)) (text : List ℕ) → IsSome ps → [] ∷ onto_last ps text ≡ onto_last ([] ∷ ps) text
-last-slash [] text h = absurd h
-last-slash (piece ∷ more) text h = refl
+joined-slashed : (text : List ℕ) (texts : List (List ℕ)) → joined (text ∷ texts) ≡ text ++ slashed texts
+joined-slashed text [] = sym (append-nil text)
+joined-slashed text (next ∷ texts) = ap (λ rest. text ++ 47 ∷ rest) (joined-slashed next texts)
 
-last-onto : (byte : ℕ) (ps : List (List ℕ)) (text : List ℕ) → IsSome ps → onto_first byte (onto_last ps text) ≡ onto_last (onto_first byte ps) text
-last-onto byte [] text h = absurd h
-last-onto byte (piece ∷ []) text h = refl
-last-onto byte (piece ∷ next ∷ more) text h = refl
+-- a word and what comes after the slash behind it
+pieces-slash : (word rest : List ℕ) → has_slash word ≡ false → pieces (word ++ 47 ∷ rest) ≡ word ∷ pieces rest
+pieces-slash [] rest cut = refl
+pieces-slash (byte ∷ word) rest cut =
+    by (λ v. cond v true (has_slash word) ≡ false
+    → cond v ([] ∷ pieces (word ++ 47 ∷ rest)) (onto_first byte (pieces (word ++ 47 ∷ rest))) ≡ (byte ∷ word) ∷ pieces rest) (byte == 47)
+    (λ _ cut. absurd (true≢false cut)) (λ _ cut. ap (onto_first byte) (pieces-slash word rest cut)) cut
 
--- a text without a slash goes on with the last piece of what is before it
-pieces-end : (front text : List ℕ) → has_slash text ≡ false → pieces (front ++ text) ≡ onto_last (pieces front) text
-pieces-end [] text cut = one_piece text cut
-pieces-end (byte ∷ front) text cut =
-    by (λ v. cond v ([] ∷ pieces (front ++ text)) (onto_first byte (pieces (front ++ text))) ≡ onto_last (cond v ([] ∷ pieces front) (onto_first byte (pieces front))) text) (byte == 47)
-    (λ _. ap (λ ps. [] ∷ ps) (pieces-end front text cut) ∙ last-slash (pieces front) text (pieces-some front))
-    (λ _. ap (onto_first byte) (pieces-end front text cut) ∙ last-onto byte (pieces front) text (pieces-some front))
+-- a word and the texts behind it are the pieces
+pieces-slashed : (word : List ℕ) (texts : List (List ℕ)) → has_slash word ≡ false → AreCut texts → pieces (word ++ slashed texts) ≡ word ∷ texts
+pieces-slashed word [] cut are = ap pieces (append-nil word) ∙ one_piece word cut
+pieces-slashed word (text ∷ texts) cut are =
+    pieces-slash word (text ++ slashed texts) cut ∙ ap (λ ps. word ∷ ps) (pieces-slashed text texts are.0 are.1)
+
+-- the pieces of texts that are joined
+abbrev pieces_of : List (List ℕ) → List (List ℕ)
+pieces_of [] = [] ∷ []
+pieces_of (text ∷ texts) = text ∷ texts
+
+pieces-joined : (texts : List (List ℕ)) → AreCut texts → pieces (joined texts) ≡ pieces_of texts
+pieces-joined [] are = refl
+pieces-joined (text ∷ texts) are = ap pieces (joined-slashed text texts) ∙ pieces-slashed text texts are.0 are.1
 
 takes_on-cut : (rest : List ℕ) → takes_on [] rest ≡ true → has_slash rest ≡ false
 takes_on-cut [] e = refl
@@ -147,21 +174,48 @@ takes_on-cut (b ∷ rest) e =
     by (λ v. (not v && takes_on [] rest) ≡ true → cond v true (has_slash rest) ≡ false) (b == 47)
     (λ _ e. absurd (true≢false (sym e))) (λ _ e. takes_on-cut rest e) e
 
--- the text, if there is one
-abbrev text_if : Bool → List ℕ → List ℕ
-text_if false text = []
-text_if true text = text
+-- what comes before the next slash, and the rest
+record IsCutEnd (texts : ℕ) (rest : List ℕ) : Type 0 where
+  text : List ℕ
+  more : List ℕ
+  is : rest ≡ text ++ more
+  cut : has_slash text ≡ false
+  taken : takes (end_of texts) more ≡ true
 
--- the end of a pattern takes a text without a slash, and only that
-taken : (has_text : Bool) (rest : List ℕ) → takes (end_of has_text) rest ≡ true → (rest ≡ text_if has_text rest) × (has_slash rest ≡ false)
-taken false [] e = (refl, refl)
-taken false (b ∷ rest) e = absurd (true≢false (sym e))
-taken true [] e = absurd (true≢false (sym e))
-taken true (b ∷ rest) e = (
-  refl,
-  by (λ v. (not v && takes_on [] rest) ≡ true → cond v true (has_slash rest) ≡ false) (b == 47)
-      (λ _ e. absurd (true≢false (sym e))) (λ _ e. takes_on-cut rest e) e,
-)
+cut_end : (texts : ℕ) (rest : List ℕ) → takes_on (end_of texts) rest ≡ true → IsCutEnd texts rest
+cut_end zero rest e = record { text = rest; more = []; is = sym (append-nil rest); cut = takes_on-cut rest e; taken = refl }
+cut_end (suc texts) [] e = absurd (true≢false (sym e))
+cut_end (suc texts) (b ∷ rest) e =
+    by (λ v. (b == 47) ≡ v → cond v (takes (256 ∷ end_of texts) rest) (takes_on (47 ∷ 256 ∷ end_of texts) rest) ≡ true → IsCutEnd (suc texts) (b ∷ rest)) (b == 47)
+    (λ _ on e. record { text = []; more = b ∷ rest; is = refl; cut = refl; taken = rw (eqb-true b 47 on) e })
+    (λ _ off e. let r = cut_end (suc texts) rest e in record { text = b ∷ r.text; more = r.more; is = ap (λ t. b ∷ t) r.is; cut = rw off r.cut; taken = r.taken })
+    refl e
+
+-- the end of a pattern takes its number of texts, each without a slash
+record AreTaken (texts : ℕ) (rest : List ℕ) : Type 0 where
+  found : List (List ℕ)
+  is : rest ≡ slashed found
+  count : length found ≡ texts
+  cut : AreCut found
+
+texts_taken : (texts : ℕ) (rest : List ℕ) → takes (end_of texts) rest ≡ true → AreTaken texts rest
+texts_taken zero [] e = record { found = []; is = refl; count = refl; cut = tt }
+texts_taken zero (b ∷ rest) e = absurd (true≢false (sym e))
+texts_taken (suc texts) [] e = absurd (true≢false (sym e))
+texts_taken (suc texts) (b ∷ []) e = let two = and_parts (47 == b) false e in absurd (true≢false (sym two.1))
+texts_taken (suc texts) (b ∷ (c ∷ rest)) e =
+    let two = and_parts (47 == b) (not (c == 47) && takes_on (end_of texts) rest) e in
+    let on = and_parts (not (c == 47)) (takes_on (end_of texts) rest) two.1 in
+    let slash_is = eqb-true 47 b two.0 in
+    let off : (c == 47) ≡ false = by (λ v. not v ≡ true → v ≡ false) (c == 47) (λ _ h. absurd (true≢false (sym h))) (λ _ h. refl) on.0 in
+    let end = cut_end texts rest on.1 in
+    let later = texts_taken texts end.more end.taken in
+    record {
+      found = (c ∷ end.text) ∷ later.found;
+      is = ap₂ (λ x y. x ∷ (c ∷ y)) (sym slash_is) (end.is ∙ ap (λ more. end.text ++ more) later.is);
+      count = ap suc later.count;
+      cut = (ap (λ v. cond v true (has_slash end.text)) off ∙ end.cut, later.cut);
+    }
 
 abbrev behind_first : List (List ℕ) → List (List ℕ)
 behind_first [] = []
@@ -176,29 +230,45 @@ text_is behind =
       | Some at ↦ λ some. sym (joined-pieces (drop (at + 1) behind)) ∙ ap (λ ps. joined (behind_first ps)) (sym (first_slash behind at some))
     ] refl
 
--- the pieces of a row's target with this text
-abbrev pieces_with : Row → List ℕ → List (List ℕ)
-pieces_with row text = onto_last (pieces row.front) (text_if row.has_text text)
+-- this many texts
+abbrev texts_by : ℕ → (ℕ → List ℕ) → List (List ℕ)
+texts_by zero at = []
+texts_by (suc texts) at = at 0 ∷ texts_by texts (λ i. at (suc i))
 
--- the routes of a row's targets, as the row reads them and as the definition does
-abbrev row_reads : Row → List ℕ → Option Route
-row_reads row text = row.read (joined (behind_first (pieces_with row text)))
+are_by : (texts : List (List ℕ)) → texts ≡ texts_by (length texts) (λ i. get_or texts i [])
+are_by [] = refl
+are_by (text ∷ texts) = ap (λ more. text ∷ more) (are_by texts)
 
-abbrev row_names : Row → List ℕ → Option Route
-row_names row text = route_of_pieces ([] ∷ pieces_with row text)
+-- the routes of a row's targets with these texts, as the row reads them and as the definition does
+abbrev read_by : Row → List (List ℕ) → Option Route
+read_by row texts = row.read (pieces_of texts) (joined texts)
+
+abbrev row_reads : Row → (ℕ → List ℕ) → Option Route
+row_reads row at = read_by row (texts_by row.texts at)
+
+abbrev row_names : Row → (ℕ → List ℕ) → Option Route
+row_names row at = route_of_pieces ([] ∷ row.word ∷ texts_by row.texts at)
 
 rows_read : map row_reads rows ≡ map row_names rows
 rows_read = refl
 
+words_cut : map (λ row. has_slash row.word) rows ≡ map (λ row. false) rows
+words_cut = refl
+
 -- the route of a target that a row's pattern takes is the route of its pieces
 pub route_on : (path : List ℕ) (read : List ℕ → Option Route) → IsOn path read → read (text_after_word path) ≡ route_of path
 route_on path read (row, on, same) =
-    let end = taken row.has_text on.rest on.taken in
-    let cut : pieces (row.front ++ on.rest) ≡ pieces_with row on.rest = pieces-end row.front on.rest end.1 ∙ ap (onto_last (pieces row.front)) end.0 in
+    let end = texts_taken row.texts on.rest on.taken in
+    let word_cut = same_in (λ row. has_slash row.word) (λ row. false) rows row words_cut on.listed in
+    let cut : pieces (row.word ++ on.rest) ≡ row.word ∷ end.found =
+    ap (λ rest. pieces (row.word ++ rest)) end.is ∙ pieces-slashed row.word end.found word_cut end.cut in
+    let text : text_after_word path ≡ joined end.found = ap text_after_word on.is ∙ text_is (row.word ++ on.rest) ∙ ap (λ ps. joined (behind_first ps)) cut in
+    let at : ℕ → List ℕ = λ i. get_or end.found i [] in
+    let are : end.found ≡ texts_by row.texts at = are_by end.found ∙ ap (λ n. texts_by n at) end.count in
     let reads = same_in row_reads row_names rows row rows_read on.listed in
-    let text : text_after_word path ≡ joined (behind_first (pieces_with row on.rest)) =
-    ap text_after_word on.is ∙ text_is (row.front ++ on.rest) ∙ ap (λ ps. joined (behind_first ps)) cut in
-    ap (λ (read : List ℕ → Option Route). read (text_after_word path)) (sym same) ∙ ap row.read text ∙ ap (λ (f : List ℕ → Option Route). f on.rest) reads
+    ap (λ (read : List ℕ → Option Route). read (text_after_word path)) (sym same) ∙ ap (reader row) text
+    ∙ ap (λ ps. row.read ps (joined end.found)) (pieces-joined end.found end.cut) ∙ ap (read_by row) are
+    ∙ ap (λ (f : (ℕ → List ℕ) → Option Route). f at) reads ∙ ap (λ ts. route_of_pieces ([] ∷ row.word ∷ ts)) (sym are)
     ∙ ap (λ ps. route_of_pieces ([] ∷ ps)) (sym cut) ∙ ap route_of (sym on.is)
 
 -- ---- a target that names a route
@@ -225,13 +295,13 @@ listed_of ((name, first) ∷ listed) word value e =
     inl (λ i. (here i, first_is i)))
     (λ _ e. inr (listed_of listed word value e)) e
 
-row_taken : (row : Row) (rest : List ℕ) → In rows row → takes (end_of row.has_text) rest ≡ true → IsAscii rest → IsTaken (slash ∷ (row.front ++ rest))
+row_taken : (row : Row) (rest : List ℕ) → In rows row → takes (end_of row.texts) rest ≡ true → IsAscii rest → IsTaken (slash ∷ (row.word ++ rest))
 row_taken row rest i taken plain =
-    ((row, record { listed = i; rest = rest; is = refl; taken = taken }), IsAscii-append (slash ∷ row.front) rest (all-ascii is_ascii (λ byte. ltb-true byte 128) (slash ∷ row.front) (front_ascii row i)) plain)
+    ((row, record { listed = i; rest = rest; is = refl; taken = taken }), IsAscii-append (slash ∷ row.word) rest (all-ascii is_ascii (λ byte. ltb-true byte 128) (slash ∷ row.word) (word_ascii row i)) plain)
 
 of_word : (word : List ℕ) (found : Route) → look_up word routes_of_words ≡ Some found → IsTaken (slash ∷ word)
 of_word word found e =
-    let i = In-left (map word_row routes_of_words) (map text_row routes_with_text) (word_row (word, found)) (In-map word_row routes_of_words (word, found) (listed_of routes_of_words word found e)) in
+    let i = In-left (map word_row routes_of_words) (flat_map text_rows routes_with_text) (word_row (word, found)) (In-map word_row routes_of_words (word, found) (listed_of routes_of_words word found e)) in
     subst (λ w. IsTaken (slash ∷ w)) (append-nil word) (row_taken (word_row (word, found)) [] i refl IsAscii-nil)
 
 digit-ascii : (byte : ℕ) → is_ascii_digit byte ≡ true → byte < 128
@@ -253,41 +323,148 @@ plain_number-digits (digit ∷ digits) n e =
       | Some m ↦ λ is e. number-digits (digit ∷ digits) m is
     ] refl e) e
 
--- a text that names a route is ASCII
-read-ascii : (text : List ℕ) (parameter : Parameter) (found : Route) → route_with text parameter ≡ Some found → IsAscii text
-read-ascii text (numbered route) found e =
-    elim (plain_number text) as (λ o. plain_number text ≡ o → option_map route o ≡ Some found → IsAscii text) [
+-- a text of ASCII that is not empty
+abbrev IsWord : List ℕ → Type 0
+IsWord [] = ⊥
+IsWord (byte ∷ text) = IsAscii (byte ∷ text)
+
+abbrev AreWords : List (List ℕ) → Type 0
+AreWords [] = Unit {0}
+AreWords (text ∷ texts) = IsWord text × AreWords texts
+
+word-ascii : (text : List ℕ) → IsWord text → IsAscii text
+word-ascii [] h = absurd h
+word-ascii (byte ∷ text) h = h
+
+plain-word : (text : List ℕ) (n : ℕ) → plain_number text ≡ Some n → IsWord text
+plain-word [] n e = absurd (cc)
+plain-word (byte ∷ text) n e = all-ascii is_ascii_digit digit-ascii (byte ∷ text) (plain_number-digits (byte ∷ text) n e)
+
+number-word : (text : List ℕ) (n : ℕ) → number_from_zero text ≡ Some n → IsWord text
+number-word text n e =
+    by (λ v. cond v (Some 0) (plain_number text) ≡ Some n → IsWord text) (bytes_eq text (codes "0"))
+    (λ zero _. subst IsWord (sym ((bytes_eq-Decides text (codes "0")).0 zero)) (IsAscii-cons 48 [] (omega arith) IsAscii-nil))
+    (λ _ e. plain-word text n e) e
+
+abbrev window : ℕ → ℕ → Window
+window from to = record { from = from; to = to }
+
+abbrev one : Window → Windows
+one first = record { first = first; second = None }
+
+abbrev two : Window → Window → Windows
+two first second = record { first = first; second = Some second }
+
+window-words : (from to : List ℕ) (found : Window) → window_of from to ≡ Some found → IsWord from × IsWord to
+window-words from to found e =
+    elim (number_from_zero from) as (λ o. number_from_zero from ≡ o
+    → option_and_then (λ first. option_and_then (λ last. Some (window first last)) (number_from_zero to)) o ≡ Some found → IsWord from × IsWord to) [
       | None ↦ λ _ e. absurd (cc)
-      | Some n ↦ λ is _. all-ascii is_ascii_digit digit-ascii text (plain_number-digits text n is)
+      | Some first ↦ λ is e. elim (number_from_zero to) as (λ o. number_from_zero to ≡ o → option_and_then (λ last. Some (window first last)) o ≡ Some found → IsWord from × IsWord to) [
+        | None ↦ λ _ e. absurd (cc)
+        | Some last ↦ λ end _. (number-word from first is, number-word to last end)
+      ] refl e
     ] refl e
 
--- the empty text names none
-read-nil : (parameter : Parameter) → route_with [] parameter ≡ None
-read-nil (numbered route) = refl
+-- two texts or four, each a word
+abbrev AreOfWindows : List (List ℕ) → Type 0
+AreOfWindows texts = AreWords texts × ((length texts ≡ 2) ⊎ (length texts ≡ 4))
 
--- a parameter takes a text that names a route
-takes-text : (text : List ℕ) (parameter : Parameter) (found : Route) → has_slash text ≡ false → route_with text parameter ≡ Some found → takes (256 ∷ []) text ≡ true
-takes-text [] parameter found cut e = let none = read-nil parameter in absurd (cc)
-takes-text (byte ∷ text) parameter found cut e =
-    by (λ v. cond v true (has_slash text) ≡ false → (not v && takes_on [] text) ≡ true) (byte == 47)
-    (λ _ cut. absurd (true≢false cut)) (λ _ cut. takes_on-nil text cut) cut
+windows-words : (texts : List (List ℕ)) (windows : Windows) → windows_of texts ≡ Some windows → AreOfWindows texts
+windows-words (from ∷ (to ∷ [])) windows e =
+    elim (window_of from to) as (λ o. window_of from to ≡ o → option_map one o ≡ Some windows → AreOfWindows (from ∷ (to ∷ []))) [
+      | None ↦ λ _ e. absurd (cc)
+      | Some first ↦ λ is _. (let words = window-words from to first is in ((words.0, (words.1, tt)), inl refl))
+    ] refl e
+windows-words (from ∷ (to ∷ (later ∷ (end ∷ [])))) windows e =
+    elim (window_of from to) as (λ o. window_of from to ≡ o → option_and_then (λ first. option_and_then (λ second. Some (two first second)) (window_of later end)) o ≡ Some windows
+    → AreOfWindows (from ∷ (to ∷ (later ∷ (end ∷ []))))) [
+      | None ↦ λ _ e. absurd (cc)
+      | Some first ↦ λ is e. elim (window_of later end) as (λ o. window_of later end ≡ o → option_and_then (λ second. Some (two first second)) o ≡ Some windows
+          → AreOfWindows (from ∷ (to ∷ (later ∷ (end ∷ []))))) [
+            | None ↦ λ _ e. absurd (cc)
+            | Some second ↦ λ so _. (
+                let words = window-words from to first is in
+                let more = window-words later end second so in
+                ((words.0, (words.1, (more.0, (more.1, tt)))), inr refl))
+          ] refl e
+    ] refl e
+windows-words _ windows e = absurd (cc)
 
-of_text : (word text : List ℕ) (found : Route) → has_slash text ≡ false → option_and_then (route_with text) (look_up word routes_with_text) ≡ Some found
-    → IsTaken (slash ∷ (word ++ slash ∷ text))
-of_text word text found cut e =
-    elim (look_up word routes_with_text) as (λ o. look_up word routes_with_text ≡ o → option_and_then (route_with text) o ≡ Some found
-    → IsTaken (slash ∷ (word ++ slash ∷ text))) [
+-- texts that name a route are as many as those of one of the rows, and ASCII
+record AreNamed (word : List ℕ) (parameter : Parameter) (texts : List (List ℕ)) : Type 0 where
+  row : Row
+  listed : In (text_rows (word, parameter)) row
+  front : row.word ≡ word
+  count : row.texts ≡ length texts
+  words : AreWords texts
+
+named : (word : List ℕ) (texts : List (List ℕ)) (parameter : Parameter) (found : Route) → route_with texts parameter ≡ Some found → AreNamed word parameter texts
+named word [] (numbered route) found e = absurd (cc)
+named word (text ∷ []) (numbered route) found e =
+    elim (plain_number text) as (λ o. plain_number text ≡ o → option_map route o ≡ Some found → AreNamed word (numbered route) (text ∷ [])) [
+      | None ↦ λ _ e. absurd (cc)
+      | Some n ↦ λ is _. record { row = number_row word route; listed = inl refl; front = refl; count = refl; words = (plain-word text n is, tt) }
+    ] refl e
+named word (text ∷ (next ∷ texts)) (numbered route) found e = absurd (cc)
+named word [] (versioned route) found e = absurd (cc)
+named word (text ∷ []) (versioned route) found e =
+    elim (number_from_zero text) as (λ o. number_from_zero text ≡ o → option_map route o ≡ Some found → AreNamed word (versioned route) (text ∷ [])) [
+      | None ↦ λ _ e. absurd (cc)
+      | Some n ↦ λ is _. record { row = version_row word route; listed = inl refl; front = refl; count = refl; words = (number-word text n is, tt) }
+    ] refl e
+named word (text ∷ (next ∷ texts)) (versioned route) found e = absurd (cc)
+named word texts (windowed route) found e =
+    elim (windows_of texts) as (λ o. windows_of texts ≡ o → option_map route o ≡ Some found → AreNamed word (windowed route) texts) [
+      | None ↦ λ _ e. absurd (cc)
+      | Some windows ↦ λ is _. (let words = windows-words texts windows is in elim words.1 [
+        | inl two ↦ record { row = windows_row word route 2; listed = inl refl; front = refl; count = sym two; words = words.0 }
+        | inr four ↦ record { row = windows_row word route 4; listed = inr (inl refl); front = refl; count = sym four; words = words.0 }
+      ])
+    ] refl e
+
+-- a pattern with a parameter for each takes them
+takes_on-past : (text : List ℕ) (texts : List (List ℕ)) → has_slash text ≡ false → takes (end_of (length texts)) (slashed texts) ≡ true
+    → takes_on (end_of (length texts)) (text ++ slashed texts) ≡ true
+takes_on-past text [] cut e = subst (λ t. takes_on [] t ≡ true) (sym (append-nil text)) (takes_on-nil text cut)
+takes_on-past [] (next ∷ texts) cut e = e
+takes_on-past (byte ∷ text) (next ∷ texts) cut e =
+    let rest = text ++ slashed (next ∷ texts) in
+    by (λ v. cond v true (has_slash text) ≡ false → cond v (takes (256 ∷ end_of (length texts)) rest) (takes_on (47 ∷ 256 ∷ end_of (length texts)) rest) ≡ true) (byte == 47)
+    (λ _ cut. absurd (true≢false cut)) (λ _ cut. takes_on-past text (next ∷ texts) cut e) cut
+
+takes-slashed : (texts : List (List ℕ)) → AreCut texts → AreWords texts → takes (end_of (length texts)) (slashed texts) ≡ true
+takes-slashed [] cut words = refl
+takes-slashed ([] ∷ texts) cut words = absurd words.0
+takes-slashed ((byte ∷ text) ∷ texts) cut words =
+    by (λ v. cond v true (has_slash text) ≡ false → (not v && takes_on (end_of (length texts)) (text ++ slashed texts)) ≡ true) (byte == 47)
+    (λ _ cut. absurd (true≢false cut)) (λ _ here. takes_on-past text texts here (takes-slashed texts cut.1 words.1)) cut.0
+
+slashed-ascii : (texts : List (List ℕ)) → AreWords texts → IsAscii (slashed texts)
+slashed-ascii [] words = IsAscii-nil
+slashed-ascii (text ∷ texts) words =
+    IsAscii-cons 47 (text ++ slashed texts) (omega arith) (IsAscii-append text (slashed texts) (word-ascii text words.0) (slashed-ascii texts words.1))
+
+of_texts : (word text : List ℕ) (texts : List (List ℕ)) (found : Route) → AreCut (text ∷ texts)
+    → option_and_then (route_with (text ∷ texts)) (look_up word routes_with_text) ≡ Some found
+    → IsTaken (slash ∷ (word ++ slash ∷ joined (text ∷ texts)))
+of_texts word text texts found cut e =
+    elim (look_up word routes_with_text) as (λ o. look_up word routes_with_text ≡ o → option_and_then (route_with (text ∷ texts)) o ≡ Some found
+    → IsTaken (slash ∷ (word ++ slash ∷ joined (text ∷ texts)))) [
       | None ↦ λ _ e. absurd (cc)
       | Some parameter ↦ λ is e. (
-          let row = text_row (word, parameter) in
-          let i = In-right (map word_row routes_of_words) (map text_row routes_with_text) row (In-map text_row routes_with_text (word, parameter) (listed_of routes_with_text word parameter is)) in
-          subst (λ t. IsTaken (slash ∷ t)) (append_assoc word (slash ∷ []) text)
-          (row_taken row text i (takes-text text parameter found cut e) (read-ascii text parameter found e)))
+          let all = text ∷ texts in
+          let it = named word all parameter found e in
+          let i = In-right (map word_row routes_of_words) (flat_map text_rows routes_with_text) it.row
+          (In-flat_map text_rows routes_with_text (word, parameter) it.row (listed_of routes_with_text word parameter is) it.listed) in
+          let taken = subst (λ n. takes (end_of n) (slashed all) ≡ true) (sym it.count) (takes-slashed all cut it.words) in
+          subst (λ rest. IsTaken (slash ∷ (word ++ slash ∷ rest))) (sym (joined-slashed text texts))
+          (subst (λ front. IsTaken (slash ∷ (front ++ slashed all))) it.front (row_taken it.row (slashed all) i taken (slashed-ascii all it.words))))
     ] refl e
 
 of_pieces : (ps : List (List ℕ)) (found : Route) → AreCut ps → route_of_pieces ps ≡ Some found → IsTaken (joined ps)
 of_pieces ([] ∷ word ∷ []) found cut e = of_word word found e
-of_pieces ([] ∷ word ∷ text ∷ []) found cut e = of_text word text found cut.1.1.0 e
+of_pieces ([] ∷ word ∷ text ∷ texts) found cut e = of_texts word text texts found cut.1.1 e
 of_pieces _ found cut e = absurd (cc)
 
 pub route_taken : (path : List ℕ) (found : Route) → route_of path ≡ Some found → IsTaken path

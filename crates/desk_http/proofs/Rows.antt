@@ -1,6 +1,6 @@
 -- The rows of the router are those of all routes, and what the router finds in them.
-use Rattle.std.proofs.Common.{◌≡◌, ◌==◌, ◌&&◌, ◌++◌, ◌⊎◌, not, ℕ, Bool, true, false, true≢false, List, [], ◌∷◌, cond, map, Option, Some, None, Result, Ok, Err, refl, sym, ap, ◌∙◌, subst, arith, inl, inr, is_some, ltb, suc, get_or, Fits, w8}
-use Rattle.std.specs.List.{list_all}
+use Rattle.std.proofs.Common.{◌≡◌, ◌==◌, ◌&&◌, ◌++◌, ◌⊎◌, not, ℕ, Bool, true, false, true≢false, List, [], ◌∷◌, cond, map, Option, Some, None, Result, Ok, Err, refl, sym, ap, ◌∙◌, subst, arith, inl, inr, is_some, ltb, zero, suc, get_or, Fits, w8, option_map}
+use Rattle.std.specs.List.{flat_map, list_all}
 use Rattle.std.proofs.lemmas.Bool.{and_parts, eq-eqb, eqb-true, ltb-true}
 use Rattle.matchit.specs.Order.{placed}
 use Rattle.matchit.specs.Route.{Scan, parse_route}
@@ -9,12 +9,13 @@ use Rattle.matchit.specs.Rows.{RowsOf, comes_before}
 use Rattle.matchit.specs.Seek.{first}
 use Rattle.matchit.specs.declared.error.InsertError.{InsertError}
 use Rattle.matchit.proofs.OnLiterals.{matchit_on_literals}
+use Rattle.visit_book.specs.declared.sights.Windows.{Windows}
 use Rattle.desk_http.specs.Table.{Table, route_at, table, with_read, with_route, with_routes}
-use Rattle.desk_http.specs.Targets.{Parameter, route_with, routes_of_words, routes_with_text, slash}
+use Rattle.desk_http.specs.Targets.{Parameter, number_from_zero, numbered, pieces, plain_number, routes_of_words, routes_with_text, slash, versioned, windowed, windows_of}
 use Rattle.desk_http.specs.declared.targets.Endpoint.{Endpoint}
 use Rattle.desk_http.specs.declared.targets.Route.{Route}
 use Rattle.desk_http.specs.declared.targets.TheConstants.{PATTERNS}
-use Rattle.desk_http.proofs.Takes.{sound, complete, by, takes, takes_on, AreBytes, Has, In, IsPlain, ArePlain}
+use Rattle.desk_http.proofs.Takes.{sound, complete, by, takes, takes_on, AreBytes, Has, In, IsPlain, ArePlain, SlashNext}
 
 -- ---- lists
 
@@ -37,6 +38,11 @@ In-left (x ∷ xs) ys item (inr later) = inr (In-left xs ys item later)
 pub In-right : {A : Type 0} (xs ys : List A) (item : A) → In ys item → In (xs ++ ys) item
 In-right [] ys item i = i
 In-right (x ∷ xs) ys item i = inr (In-right xs ys item i)
+
+pub In-flat_map : {A B : Type 0} (f : A → List B) (items : List A) (item : A) (x : B) → In items item → In (f item) x → In (flat_map f items) x
+In-flat_map f [] item x i there = absurd i
+In-flat_map f (first ∷ rest) item x (inl same) there = In-left (f first) (flat_map f rest) x (subst (λ it. In (f it) x) (sym same) there)
+In-flat_map f (first ∷ rest) item x (inr later) there = In-right (f first) (flat_map f rest) x (In-flat_map f rest item x later there)
 
 -- two functions that agree on a list agree at each of its items
 pub same_in : {A B : Type 0} (f g : A → B) (items : List A) (item : A) → map f items ≡ map g items → In items item → f item ≡ g item
@@ -125,37 +131,52 @@ module _ {A : Type 0} (row : A → List ℕ × Endpoint) where
 
 -- ---- the routes as rows
 
--- the routes of a word, or of a word and a text after it: the front of their targets behind the first slash, whether a text comes after it, and
--- the route that the text names
+-- the targets of a word with this many texts after it, and the route that what is behind the word's slash names, by its pieces or as it is
 pub record Row : Type 0 where
-  pub front : List ℕ
-  pub has_text : Bool
-  pub read : List ℕ → Option Route
+  pub word : List ℕ
+  pub texts : ℕ
+  pub read : List (List ℕ) → List ℕ → Option Route
 
 abbrev pub word_row : List ℕ × Route → Row
-word_row (word, route) = record { front = word; has_text = false; read = λ text. Some route }
+word_row (word, route) = record { word = word; texts = 0; read = λ texts text. Some route }
 
-abbrev pub text_row : List ℕ × Parameter → Row
-text_row (word, parameter) = record { front = word ++ slash ∷ []; has_text = true; read = λ text. route_with text parameter }
+abbrev pub number_row : List ℕ → (ℕ → Route) → Row
+number_row word route = record { word = word; texts = 1; read = λ texts text. option_map route (plain_number text) }
+
+abbrev pub version_row : List ℕ → (ℕ → Route) → Row
+version_row word route = record { word = word; texts = 1; read = λ texts text. option_map route (number_from_zero text) }
+
+abbrev pub windows_row : List ℕ → (Windows → Route) → ℕ → Row
+windows_row word route count = record { word = word; texts = count; read = λ texts text. option_map route (windows_of texts) }
+
+-- the rows of a word and the texts after it: one for each number of texts that name a route
+abbrev pub text_rows : List ℕ × Parameter → List Row
+text_rows (word, numbered route) = number_row word route ∷ []
+text_rows (word, versioned route) = version_row word route ∷ []
+text_rows (word, windowed route) = windows_row word route 2 ∷ windows_row word route 4 ∷ []
 
 abbrev pub rows : List Row
-rows = map word_row routes_of_words ++ map text_row routes_with_text
+rows = map word_row routes_of_words ++ flat_map text_rows routes_with_text
 
--- how a pattern goes on after the front
-abbrev pub end_of : Bool → List ℕ
-end_of false = []
-end_of true = 256 ∷ []
+-- how a pattern goes on after the word: a slash and a parameter for each text
+abbrev pub end_of : ℕ → List ℕ
+end_of zero = []
+end_of (suc texts) = 47 ∷ 256 ∷ end_of texts
 
 -- the bytes of a row's pattern
 abbrev pub pattern_of : Row → List ℕ
-pattern_of row = slash ∷ (row.front ++ end_of row.has_text)
+pattern_of row = slash ∷ (row.word ++ end_of row.texts)
+
+-- how a row reads what is behind the word's slash
+abbrev pub reader : Row → List ℕ → Option Route
+reader row = λ text. row.read (pieces text) text
 
 -- a row's pattern, and how it reads a text
 abbrev Shown : Type 0
 Shown = List ℕ × (List ℕ → Option Route)
 
 abbrev shown : Row → Shown
-shown row = (pattern_of row, row.read)
+shown row = (pattern_of row, reader row)
 
 -- the same of what the router is given
 abbrev read_as : List ℕ → Endpoint → Shown
@@ -170,13 +191,13 @@ rows_are = refl
 abbrev pub is_ascii : ℕ → Bool
 is_ascii byte = ltb byte 128
 
-fronts_are_ascii : map (λ row. list_all is_ascii row.front) rows ≡ map (λ row. true) rows
-fronts_are_ascii = refl
+words_are_ascii : map (λ row. list_all is_ascii row.word) rows ≡ map (λ row. true) rows
+words_are_ascii = refl
 
-pub front_ascii : (row : Row) → In rows row → list_all is_ascii (slash ∷ row.front) ≡ true
-front_ascii row i = same_in (λ row. list_all is_ascii row.front) (λ row. true) rows row fronts_are_ascii i
+pub word_ascii : (row : Row) → In rows row → list_all is_ascii (slash ∷ row.word) ≡ true
+word_ascii row i = same_in (λ row. list_all is_ascii row.word) (λ row. true) rows row words_are_ascii i
 
-table-Has : (t : List ℕ) (e : RouteOf Endpoint) → Has table t e → (row : Row) × In rows row × (pattern_of row ≡ t) × (row.read ≡ route_at e.value)
+table-Has : (t : List ℕ) (e : RouteOf Endpoint) → Has table t e → (row : Row) × In rows row × (pattern_of row ≡ t) × (reader row ≡ route_at e.value)
 unfolding table
 table-Has t e i =
     elim (routes-Has (λ row. (row.0.now, row.1)) PATTERNS [] t e i) [
@@ -192,7 +213,7 @@ unfolding table
 row-Has row i =
     let known = subst (λ list. In list (shown row)) (sym rows_are) (In-map shown rows row i) in
     let r = of-map (λ row. read_as row.0.now row.1) PATTERNS (shown row) known in
-    routes-new (λ row. (row.0.now, row.1)) PATTERNS [] r.0 slash (row.front ++ end_of row.has_text) r.1 (ap (λ (x : Shown). x.0) r.2)
+    routes-new (λ row. (row.0.now, row.1)) PATTERNS [] r.0 slash (row.word ++ end_of row.texts) r.1 (ap (λ (x : Shown). x.0) r.2)
 
 -- ---- fronts of ASCII
 
@@ -231,30 +252,34 @@ past_front (x ∷ front) end (b ∷ path) e on =
 
 -- ---- what `first` finds in the table
 
--- the target is one of this row: a slash, the front and what the end takes
+-- the target is one of this row: a slash, the word and what the end takes
 pub record IsOnRow (row : Row) (path : List ℕ) : Type 0 where
   pub listed : In rows row
   pub rest : List ℕ
-  pub is : path ≡ slash ∷ (row.front ++ rest)
-  pub taken : takes (end_of row.has_text) rest ≡ true
+  pub is : path ≡ slash ∷ (row.word ++ rest)
+  pub taken : takes (end_of row.texts) rest ≡ true
 
 -- the target is one of a row that reads so
 abbrev pub IsOn : List ℕ → (List ℕ → Option Route) → Type 0
-IsOn path read = (row : Row) × IsOnRow row path × (row.read ≡ read)
+IsOn path read = (row : Row) × IsOnRow row path × (reader row ≡ read)
 
-end_plain : (has_text : Bool) → IsPlain (end_of has_text)
-end_plain false = tt
-end_plain true = (inl (refl, tt), tt)
+end_slash : (texts : ℕ) → SlashNext (end_of texts)
+end_slash zero = tt
+end_slash (suc texts) = refl
+
+end_plain : (texts : ℕ) → IsPlain (end_of texts)
+end_plain zero = tt
+end_plain (suc texts) = (inr (omega arith), (inl (refl, end_slash texts), end_plain texts))
 
 table_plain : ArePlain table
 table_plain t e i =
     let r = table-Has t e i in
-    subst IsPlain r.2 (plain-front (slash ∷ r.0.front) (end_of r.0.has_text) (front_ascii r.0 r.1) (end_plain r.0.has_text))
+    subst IsPlain r.2 (plain-front (slash ∷ r.0.word) (end_of r.0.texts) (word_ascii r.0 r.1) (end_plain r.0.texts))
 
 row_on : (t path : List ℕ) (e : RouteOf Endpoint) → Has table t e → takes t path ≡ true → IsOn path (route_at e.value)
 row_on t path e i on =
     let r = table-Has t e i in
-    let past = past_front (slash ∷ r.0.front) (end_of r.0.has_text) path (front_ascii r.0 r.1) (subst (λ t. takes t path ≡ true) (sym r.2) on) in
+    let past = past_front (slash ∷ r.0.word) (end_of r.0.texts) path (word_ascii r.0 r.1) (subst (λ t. takes t path ≡ true) (sym r.2) on) in
     (r.0, record { listed = r.1; rest = past.0; is = past.1; taken = past.2 }, r.3)
 
 bytes_are : (path : List ℕ) → ((i : ℕ) → Fits w8 (get_or path i 0)) → AreBytes path
@@ -269,7 +294,7 @@ found_on path e h is =
 none_on : (path : List ℕ) → first table path ≡ None → (row : Row) → IsOnRow row path → ⊥
 none_on path is row on =
     let there = row-Has row on.listed in
-    let taken = subst (λ p. takes (pattern_of row) p ≡ true) (sym on.is) (takes-front (slash ∷ row.front) (end_of row.has_text) on.rest (front_ascii row on.listed) on.taken) in
+    let taken = subst (λ p. takes (pattern_of row) p ≡ true) (sym on.is) (takes-front (slash ∷ row.word) (end_of row.texts) on.rest (word_ascii row on.listed) on.taken) in
     let r = complete path 0 table (pattern_of row) there.0 table_plain (omega arith) there.1 taken in
     true≢false (sym (ap is_some r.1) ∙ ap is_some is)
 

@@ -3,18 +3,14 @@ use Rattle.std.specs.Prelude.{ℕ, List, [], ◌∷◌, codes, Option, None, Som
 use Rattle.std.specs.Option.{option_map, option_and_then}
 use Rattle.std.specs.Str.{bytes_eq}
 use Rattle.desk_bodies.specs.Commits.{if_name}
-use Rattle.desk_http.specs.Targets.{pieces, plain_number}
+use Rattle.desk_http.specs.Targets.{number_from_zero, pieces}
 use Rattle.desk_http.specs.declared.port.Feed.{Feed}
-
--- the number of 32 bits that is written as 0, or by 1 to 10 digits of which the first is no zero
-abbrev pub version_written : List ℕ → Option ℕ
-version_written text = if bytes_eq text (codes "0") then Some 0 else plain_number text
 
 -- the feed of the watch of this name after this version, if they are a name and a version
 abbrev pub feed_named : List ℕ → List ℕ → Option Feed
 feed_named name version =
     option_and_then (λ watch. option_map (λ after. record { watch = watch; after = after })
-    (version_written version)) (if_name name)
+    (number_from_zero version)) (if_name name)
 
 -- the feed that the pieces of a target name
 abbrev pub feed_of_pieces : List (List ℕ) → Option Feed

@@ -19,10 +19,11 @@ use Rattle.desk_http.specs.DaysRoute.{day_asked}
 use Rattle.desk_http.specs.Desks.{desk_named, no_desk}
 use Rattle.desk_http.specs.MessagesRoute.{message_asked}
 use Rattle.desk_http.specs.ReportsRoute.{cancel_asked, report_asked}
+use Rattle.desk_http.specs.SightRoute.{sight_asked}
 use Rattle.desk_http.specs.VisitsRoute.{visit_added}
 use Rattle.desk_http.specs.Targets.{route_of}
 use Rattle.desk_http.specs.declared.targets.Route.{Route}
-use Rattle.desk_http.specs.declared.targets.Route.TheVariants.{Visits, Commits, Mvt, Reports, Cancels, Version, Unplaced, Airport, Visit, Entry, Plan, Chart, Day}
+use Rattle.desk_http.specs.declared.targets.Route.TheVariants.{Visits, Commits, Mvt, Reports, Cancels, Version, Unplaced, Airport, Visit, Entry, Plan, Chart, Day, Sight, History}
 
 -- what is done with the body of a request: it is passed over, or read as a text or as JSON
 pub data BodyKind : Type 0 where
@@ -114,7 +115,8 @@ pub record ReadsBody (said : Said) : Type 0 where
   pub seen : IsSome said.seen
   pub desk : IsSome (desk_for route said.desk)
 
--- what a desk asks of a route with this body: a day has no body, and its number is looked at
+-- what a desk asks of a route with this body: a day or windows have no body, and their numbers are
+-- looked at
 abbrev pub what_asked : AirportParts → Route → List ℕ → List ℕ → Result What EarlyReply
 what_asked airport Visits desk body = visit_added airport body
 what_asked airport Commits desk body = commit_asked airport body
@@ -129,9 +131,12 @@ what_asked airport (Entry number) desk body = Ok (what.Entry number)
 what_asked airport (Plan day) desk body = day_asked airport day (what.Plan day)
 what_asked airport (Chart day) desk body = day_asked airport day (what.Chart day)
 what_asked airport (Day day) desk body = day_asked airport day (what.Day day)
+what_asked airport (Sight windows) desk body = sight_asked windows
+what_asked airport (History version) desk body = Ok (what.History version)
 
 -- what is asked, or the first reply that is fixed: by the target and the method, then by the
--- version that the desk says it has seen, then by the desk's name, then by the day or the body
+-- version that the desk says it has seen, then by the desk's name, then by the day, the windows or
+-- the body
 abbrev pub asked_by : AirportParts → Said → Result Ask EarlyReply
 asked_by airport said = do
   route ← route_taken said.method said.target

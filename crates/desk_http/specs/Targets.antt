@@ -3,13 +3,19 @@ use Rattle.std.specs.Prelude.{ℕ, ◌==◌, List, [], ◌∷◌, codes, Option,
 use Rattle.std.specs.Option.{option_and_then}
 use Rattle.std.specs.Str.{bytes_eq}
 use Rattle.apron_base.specs.Digits.{most_digits, number_of}
+use Rattle.apron_base.specs.OptionChain.{◌>>=◌}
+use Rattle.visit_book.specs.declared.sights.Window.{Window}
+use Rattle.visit_book.specs.declared.sights.Windows.{Windows}
 use Rattle.desk_http.specs.Numbers.{within_32_bits}
 use Rattle.desk_http.specs.declared.targets.Route.{Route}
-use Rattle.desk_http.specs.declared.targets.Route.TheVariants.{Visits, Commits, Mvt, Reports, Cancels, Version, Unplaced, Airport, Visit, Entry, Plan, Chart, Day}
+use Rattle.desk_http.specs.declared.targets.Route.TheVariants.{Visits, Commits, Mvt, Reports, Cancels, Version, Unplaced, Airport, Visit, Entry, Plan, Chart, Day, Sight, History}
 
--- how a text after a word names a route: by a number
+-- how the texts after a word name a route: one by a number, or by one that may be zero; or two or
+-- four by windows of minutes
 pub data Parameter : Type 0 where
   numbered : (ℕ → Route) → Parameter
+  versioned : (ℕ → Route) → Parameter
+  windowed : (Windows → Route) → Parameter
 
 -- the routes that a word alone names, each with its word
 abbrev pub routes_of_words : List (List ℕ × Route)
@@ -24,7 +30,7 @@ routes_of_words =
     ∷ (codes "airport", Airport)
     ∷ []
 
--- the routes that a word and a text after it name, each with its word
+-- the routes that a word and the texts after it name, each with its word
 abbrev pub routes_with_text : List (List ℕ × Parameter)
 routes_with_text =
     (codes "visits", numbered Visit)
@@ -32,6 +38,8 @@ routes_with_text =
     ∷ (codes "plan", numbered Plan)
     ∷ (codes "chart", numbered Chart)
     ∷ (codes "day", numbered Day)
+    ∷ (codes "sight", windowed Sight)
+    ∷ (codes "history", versioned History)
     ∷ []
 
 -- what stands at this word
@@ -65,16 +73,46 @@ plain_number (digit ∷ digits) =
     if digit == zero_digit then None
     else option_and_then within_32_bits (number_of (digit ∷ digits) most_digits)
 
--- the route that this text names
-abbrev pub route_with : List ℕ → Parameter → Option Route
-route_with text (numbered route) = option_map route (plain_number text)
+-- the same, or zero
+abbrev pub number_from_zero : List ℕ → Option ℕ
+number_from_zero text = if bytes_eq text (codes "0") then Some 0 else plain_number text
 
--- the route that the pieces of a target name: a slash and a word, or a slash, a word, a slash and
--- a text
+-- the window that two texts give
+abbrev pub window_of : List ℕ → List ℕ → Option Window
+window_of first last = do
+  from ← number_from_zero first
+  to ← number_from_zero last
+  Some (record { from = from; to = to })
+
+-- the windows that two texts give, or four
+abbrev pub windows_of : List (List ℕ) → Option Windows
+windows_of (from ∷ to ∷ []) =
+    option_map (λ window. record { first = window; second = None }) (window_of from to)
+windows_of (from ∷ to ∷ later ∷ end ∷ []) = do
+  first ← window_of from to
+  second ← window_of later end
+  Some (record { first = first; second = Some second })
+windows_of texts = None
+
+-- the text, if it is one alone
+abbrev pub one_text : List (List ℕ) → Option (List ℕ)
+one_text (text ∷ []) = Some text
+one_text texts = None
+
+-- the route that these texts name
+abbrev pub route_with : List (List ℕ) → Parameter → Option Route
+route_with texts (numbered route) =
+    option_map route (option_and_then plain_number (one_text texts))
+route_with texts (versioned route) =
+    option_map route (option_and_then number_from_zero (one_text texts))
+route_with texts (windowed route) = option_map route (windows_of texts)
+
+-- the route that the pieces of a target name: a slash and a word, or a slash, a word, and texts with
+-- a slash before each
 abbrev pub route_of_pieces : List (List ℕ) → Option Route
 route_of_pieces ([] ∷ word ∷ []) = look_up word routes_of_words
-route_of_pieces ([] ∷ word ∷ text ∷ []) =
-    option_and_then (route_with text) (look_up word routes_with_text)
+route_of_pieces ([] ∷ word ∷ text ∷ texts) =
+    option_and_then (route_with (text ∷ texts)) (look_up word routes_with_text)
 route_of_pieces _ = None
 
 -- the route that a target names

@@ -20,6 +20,7 @@ mod days;
 mod desks;
 mod messages;
 mod reports;
+mod sight;
 mod visits;
 
 use commits::commit_asked;
@@ -27,6 +28,7 @@ use days::day_asked;
 use desks::{desk_named, no_desk};
 use messages::message_asked;
 use reports::{cancel_asked, report_asked};
+use sight::sight_asked;
 use visits::visit_added;
 
 /// What a request with these parts asks of the plan of this airport, or the reply that is fixed
@@ -114,7 +116,7 @@ fn desk_for(route: &Route, desk: FieldText<'_>) -> Option<Name>
     }
 }
 
-// What a desk asks of a route with this body. A day is looked at, and no body then.
+// What a desk asks of a route with this body. A day or windows are looked at, and no body then.
 fn what_asked(
     alloc: Global,
     airport: &Airport,
@@ -141,6 +143,8 @@ fn what_asked(
         Route::Plan(day) => day_asked(airport, day, What::Plan(day)),
         Route::Chart(day) => day_asked(airport, day, What::Chart(day)),
         Route::Day(day) => day_asked(airport, day, What::Day(day)),
+        Route::Sight(windows) => sight_asked(windows),
+        Route::History(version) => Ok(What::History(version)),
     })
 }
 

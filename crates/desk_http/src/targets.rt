@@ -1,12 +1,13 @@
 // What the target of a request names.
-ghost use Rattle.std.specs.Prelude.{◌≡◌, ◌==◌, ◌<◌, IfOk, IfSome, OnOk, length, position};
+ghost use Rattle.std.specs.Prelude.{◌≡◌, ◌==◌, ◌<◌, ◌∷◌, [], IfOk, IfSome, MatchOption, OnOk, length, position};
 ghost use Rattle.desk_http.specs.Table.{route_at as route_at_lem, table, text_after_word as text_after_word_lem, with_route, with_routes};
-ghost use Rattle.desk_http.specs.Targets.{plain_number as plain_number_lem, route_of as route_of_lem, slash};
+ghost use Rattle.desk_http.specs.Targets.{number_from_zero as number_from_zero_lem, pieces, plain_number as plain_number_lem, route_of as route_of_lem, slash, window_of as window_of_lem, windows_of as windows_of_lem};
 
 use crate::numbers::within_32_bits;
 use apron_base::{MAX_DIGITS, Memory, number_of};
 use matchit::{InsertError, Router};
 use std::alloc::Global;
+use visit_book::{Window, Windows};
 
 /// What a target names without the text that may end it.
 #[derive(Clone, Copy, Debug, PartialEq, Eq)]
@@ -24,6 +25,8 @@ pub(crate) enum Endpoint {
     Plan,
     Chart,
     Day,
+    Sight,
+    History,
 }
 
 /// What a target names.
@@ -47,11 +50,15 @@ pub(crate) enum Route {
     Chart(u32),
     /// The visits of this day.
     Day(u32),
+    /// The picture of the stands in these minutes.
+    Sight(Windows),
+    /// The digest of this version.
+    History(u32),
 }
 
 /// All endpoints with the router's patterns of their targets, in the order of the definition's two
 /// lists.
-const PATTERNS: [(&str, Endpoint); 13] = [
+const PATTERNS: [(&str, Endpoint); 16] = [
     ("/visits", Endpoint::Visits),
     ("/commits", Endpoint::Commits),
     ("/mvt", Endpoint::Mvt),
@@ -65,6 +72,9 @@ const PATTERNS: [(&str, Endpoint); 13] = [
     ("/plan/{n}", Endpoint::Plan),
     ("/chart/{n}", Endpoint::Chart),
     ("/day/{n}", Endpoint::Day),
+    ("/sight/{from}/{to}", Endpoint::Sight),
+    ("/sight/{from}/{to}/{later}/{end}", Endpoint::Sight),
+    ("/history/{n}", Endpoint::History),
 ];
 
 /// The routes of a desk.
@@ -143,6 +153,8 @@ fn route_at(endpoint: Endpoint, text: &[u8]) -> Option<Route>
         Endpoint::Plan => Route::Plan(plain_number(text)?),
         Endpoint::Chart => Route::Chart(plain_number(text)?),
         Endpoint::Day => Route::Day(plain_number(text)?),
+        Endpoint::Sight => Route::Sight(windows_of(text)?),
+        Endpoint::History => Route::History(number_from_zero(text)?),
     })
 }
 
@@ -175,4 +187,55 @@ pub(crate) fn plain_number(text: &[u8]) -> Option<u32>
         [] | [b'0', ..] => None,
         _ => within_32_bits(number_of(text, MAX_DIGITS)?),
     }
+}
+
+/// The same, or zero.
+pub(crate) fn number_from_zero(text: &[u8]) -> Option<u32>
+    ensures number { result ≡ number_from_zero_lem text.now }
+{
+    match text {
+        b"0" => Some(0),
+        _ => plain_number(text),
+    }
+}
+
+// The windows that two numbers with a slash between them give, or four.
+fn windows_of(text: &[u8]) -> Option<Windows>
+    ensures is { result ≡ windows_of_lem (pieces text.now) }
+{
+    let (from, rest) = parted(text)?;
+    let Some((to, rest)) = parted(rest) else {
+        let first = window_of(from, rest)?;
+        return Some(Windows {
+            first,
+            second: None,
+        });
+    };
+    let (later, rest) = parted(rest)?;
+    if parted(rest).is_some() {
+        return None;
+    }
+    let first = window_of(from, to)?;
+    let second = window_of(later, rest)?;
+    Some(Windows {
+        first,
+        second: Some(second),
+    })
+}
+
+fn window_of(first: &[u8], last: &[u8]) -> Option<Window>
+    ensures is { result ≡ window_of_lem first.now last.now }
+{
+    let from = number_from_zero(first)?;
+    let to = number_from_zero(last)?;
+    Some(Window { from, to })
+}
+
+// The text before the first slash, and the one after it.
+fn parted(text: &[u8]) -> Option<(&[u8], &[u8])>
+    ensures parts { MatchOption result (pieces text.now ≡ text.now ∷ [])
+        (λ parts. pieces text.now ≡ parts.0.now ∷ pieces parts.1.now) }
+{
+    let end = slash_at(text)?;
+    Some((&text[..end], &text[end + 1..]))
 }

@@ -9,7 +9,7 @@ use Rattle.serde_json.proofs.OnLiterals.{serde_json_on_literals}
 use Rattle.mvt_grammar.specs.declared.message.MvtFault.{MvtFault}
 use Rattle.mvt_grammar.specs.declared.message.MvtFault.TheVariants.{TooLong, NoIdentifier, BadFlightLine, BadElement, Twice}
 use Rattle.desk_words.specs.declared.early.EarlyReply.{EarlyReply}
-use Rattle.desk_words.specs.declared.early.EarlyReply.TheVariants.{NoRoute, OnlyGet, OnlyPost, BadSeen, BadDesk, NoDay, NotJson, NotMvt, BadType, BadStand, NoStand, BadTimes}
+use Rattle.desk_words.specs.declared.early.EarlyReply.TheVariants.{NoRoute, OnlyGet, OnlyPost, BadSeen, BadDesk, NoDay, NotJson, NotMvt, BadType, BadStand, NoStand, BadTimes, BadMinutes}
 use Rattle.desk_words.specs.Early.{IsEarly, IsMvtFault, early_text}
 use Rattle.desk_words.specs.Fixed.{fixed_texts, no_memory_text, keeper_fault_text, bad_encoding_text, bad_head_text, large_body_text, no_length_text}
 use Rattle.desk_words.proofs.Lines.{behind_three}
@@ -82,12 +82,13 @@ early_apart BadType = differs_apart (early_text BadType) fixed_texts refl
 early_apart (BadStand edit) = differs_apart (early_text (BadStand edit)) fixed_texts refl
 early_apart NoStand = differs_apart (early_text NoStand) fixed_texts refl
 early_apart BadTimes = differs_apart (early_text BadTimes) fixed_texts refl
+early_apart BadMinutes = differs_apart (early_text BadMinutes) fixed_texts refl
 
 -- those that are constants
 abbrev constants : List EarlyReply
 constants =
     NoRoute ∷ OnlyGet ∷ OnlyPost ∷ BadSeen ∷ BadDesk ∷ NoDay ∷ NotJson ∷ NotMvt TooLong ∷ NotMvt NoIdentifier
-    ∷ NotMvt BadFlightLine ∷ BadType ∷ NoStand ∷ BadTimes ∷ []
+    ∷ NotMvt BadFlightLine ∷ BadType ∷ NoStand ∷ BadTimes ∷ BadMinutes ∷ []
 
 -- the one of this text that is a constant
 abbrev constant_of : List ℕ → EarlyReply
@@ -145,6 +146,7 @@ early_read BadType small = refl
 early_read (BadStand edit) small = stand_read edit small
 early_read NoStand small = refl
 early_read BadTimes small = refl
+early_read BadMinutes small = refl
 
 -- early replies with the same text are the same
 pub early_one : (early other : EarlyReply) → IsEarly early → IsEarly other → early_text early ≡ early_text other → early ≡ other

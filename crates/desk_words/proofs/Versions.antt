@@ -12,10 +12,10 @@ use Rattle.mvt_grammar.specs.declared.message.MvtFault.TheVariants.{TooLong, NoI
 use Rattle.visit_book.specs.declared.edits.EditFault.{EditFault}
 use Rattle.visit_book.specs.declared.edits.EditFault.TheVariants.{UnknownVisit, Overtaken, Gone, NoSuchPart, OnBlock, BadCut, BadJoin, Unfit, Clash, Memory}
 use Rattle.desk_words.specs.declared.early.EarlyReply.{EarlyReply}
-use Rattle.desk_words.specs.declared.early.EarlyReply.TheVariants.{NoRoute, OnlyGet, OnlyPost, BadSeen, BadDesk, NoDay, NotJson, NotMvt, BadType, BadStand, NoStand, BadTimes}
+use Rattle.desk_words.specs.declared.early.EarlyReply.TheVariants.{NoRoute, OnlyGet, OnlyPost, BadSeen, BadDesk, NoDay, NotJson, NotMvt, BadType, BadStand, NoStand, BadTimes, BadMinutes}
 use Rattle.desk_words.specs.declared.replies.Reply.{Reply}
 use Rattle.desk_words.specs.declared.replies.ReplyBody.{ReplyBody}
-use Rattle.desk_words.specs.declared.replies.ReplyBody.TheVariants.{Added, Committed, Message, Reported, Cancelled, Version, Visit as AVisit, Plan, Unplaced, Chart, Entry, Airport, Day, NoVisit, NoEntry, Ahead, Full, OtherName, Edit, Denied}
+use Rattle.desk_words.specs.declared.replies.ReplyBody.TheVariants.{Added, Committed, Message, Reported, Cancelled, Version, Visit as AVisit, Plan, Unplaced, Chart, Entry, Airport, Day, Sight, History, NoVisit, NoEntry, Ahead, Full, OtherName, Edit, Denied}
 use Rattle.desk_words.specs.Early.{early_text}
 use Rattle.desk_words.specs.Fixed.{fixed_texts, no_memory_text, keeper_fault_text, bad_encoding_text, bad_head_text, large_body_text, no_length_text}
 use Rattle.desk_words.specs.Replies.{body_text, fault_code, media_of, reply_text, status_code}
@@ -52,6 +52,8 @@ code_one_line (Chart text) = refl
 code_one_line (Entry entry call desk kind) = refl
 code_one_line Airport = refl
 code_one_line (Day visits) = refl
+code_one_line (Sight sight) = refl
+code_one_line (History entries digest) = refl
 code_one_line NoVisit = refl
 code_one_line NoEntry = refl
 code_one_line Ahead = refl
@@ -80,6 +82,8 @@ media_one_line (Chart text) = refl
 media_one_line (Entry entry call desk kind) = refl
 media_one_line Airport = refl
 media_one_line (Day visits) = refl
+media_one_line (Sight sight) = refl
+media_one_line (History entries digest) = refl
 media_one_line NoVisit = refl
 media_one_line NoEntry = refl
 media_one_line Ahead = refl
@@ -114,6 +118,7 @@ early_shows_none BadType = refl
 early_shows_none (BadStand edit) = ap (λ (text : List ℕ). starts_with nat_eq text (codes "X-Version: ")) (stand_behind edit)
 early_shows_none NoStand = refl
 early_shows_none BadTimes = refl
+early_shows_none BadMinutes = refl
 
 -- none of these texts shows a version
 abbrev none_shows : List (List ℕ) → Bool

@@ -5,7 +5,7 @@ use Rattle.serde_json.specs.Written.{compact_text}
 use Rattle.mvt_grammar.specs.declared.message.MvtFault.{MvtFault}
 use Rattle.mvt_grammar.specs.declared.message.MvtFault.TheVariants.{TooLong, NoIdentifier, BadFlightLine, BadElement, Twice}
 use Rattle.desk_words.specs.declared.early.EarlyReply.{EarlyReply}
-use Rattle.desk_words.specs.declared.early.EarlyReply.TheVariants.{NoRoute, OnlyGet, OnlyPost, BadSeen, BadDesk, NoDay, NotJson, NotMvt, BadType, BadStand, NoStand, BadTimes}
+use Rattle.desk_words.specs.declared.early.EarlyReply.TheVariants.{NoRoute, OnlyGet, OnlyPost, BadSeen, BadDesk, NoDay, NotJson, NotMvt, BadType, BadStand, NoStand, BadTimes, BadMinutes}
 use Rattle.desk_words.specs.Fixed.{error_data, plain_text}
 use Rattle.desk_words.specs.PartObjects.{whole}
 use Rattle.desk_words.specs.Texts.{json_media, text_of}
@@ -67,3 +67,4 @@ early_text BadType = plain_text 422 (error_data (codes "type"))
 early_text (BadStand edit) = plain_text 422 (stand_error_data edit)
 early_text NoStand = plain_text 422 (error_data (codes "stand"))
 early_text BadTimes = plain_text 422 (error_data (codes "times"))
+early_text BadMinutes = plain_text 404 (error_data (codes "minutes"))

@@ -8,5 +8,6 @@ pub mod FaultObjects
 pub mod RowObjects
 pub mod EntryObjects
 pub mod AirportObjects
+pub mod SightObjects
 pub mod Replies
 pub mod Spelt

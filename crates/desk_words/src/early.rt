@@ -38,6 +38,8 @@ pub enum EarlyReply {
     /// block for less than the least minutes of its type; or a flight's day is neither a day of the
     /// plan nor the day before it.
     BadTimes,
+    /// A window of minutes is empty, longer than 2,880 minutes, or ends beyond minute 65,535.
+    BadMinutes,
 }
 
 /// The reply's whole text, head and body.
@@ -76,6 +78,9 @@ pub fn early_bytes(early: EarlyReply) -> ShortText
         ),
         EarlyReply::BadTimes => ShortText::of(
             b"HTTP/1.1 422 Unprocessable Entity\r\nContent-Type: application/json\r\nContent-Length: 17\r\n\r\n{\"error\":\"times\"}",
+        ),
+        EarlyReply::BadMinutes => ShortText::of(
+            b"HTTP/1.1 404 Not Found\r\nContent-Type: application/json\r\nContent-Length: 19\r\n\r\n{\"error\":\"minutes\"}",
         ),
     }
 }

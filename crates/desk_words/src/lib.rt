@@ -15,4 +15,5 @@ mod part_objects;
 pub mod replies;
 mod row_objects;
 pub mod short;
+mod sight_objects;
 mod visit_objects;

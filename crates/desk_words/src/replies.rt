@@ -7,10 +7,11 @@ ghost use Rattle.desk_words.specs.Replies.{IsTellable, added_data, body_text, fa
 
 use crate::airport_objects::push_airport;
 use crate::bumped_objects::{push_message, push_reported};
-use crate::entry_objects::push_entry;
+use crate::entry_objects::{push_entry, push_history};
 use crate::fault_objects::{denial_word, push_fault, push_other_name, push_refused};
 use crate::push_object;
 use crate::row_objects::{push_plan, push_unplaced};
+use crate::sight_objects::push_sight;
 use crate::visit_objects::{push_day, push_visit};
 use apron_base::{Listed, Memory, Name, PartId, VisitNo};
 use apron_rules::{Airport, AirportParts};
@@ -18,7 +19,7 @@ use desk_asks::EntryKind;
 use http::StatusCode;
 use std::alloc::{AllocError, Global};
 pub use visit_book::PartRow;
-use visit_book::{EditFault, Visit};
+use visit_book::{EditFault, Sight, Visit};
 
 /// The media type of a body that is JSON.
 pub const JSON: &str = "application/json";
@@ -35,6 +36,11 @@ const MOST_PLACED: usize = 104;
 const MOST_WAITING: usize = 198;
 
 const MOST_VISIT: usize = 876;
+
+// The same of a conflict, and of an aircraft that doesn't fit its stand.
+const MOST_CONFLICT: usize = 96;
+
+const MOST_MISFIT: usize = 70;
 
 // More than the bytes of any body but its listed items, unless it is the airport's.
 const MOST_OTHER: usize = 256;
@@ -92,6 +98,13 @@ pub enum ReplyBody {
     /// The visits that hold a stand or wait for one on a day, in order of number.
     Day {
         visits: Listed<Visit>,
+    },
+    /// A picture of the stands.
+    Sight(Sight),
+    /// The digest of the history's first entries, this many.
+    History {
+        entries: u32,
+        digest: [u8; 32],
     },
     /// There is no visit of this number.
     NoVisit,
@@ -177,7 +190,9 @@ fn code(told: &ReplyBody) -> StatusCode
         | ReplyBody::Chart { .. }
         | ReplyBody::Entry { .. }
         | ReplyBody::Airport
-        | ReplyBody::Day { .. } => StatusCode::OK,
+        | ReplyBody::Day { .. }
+        | ReplyBody::Sight(_)
+        | ReplyBody::History { .. } => StatusCode::OK,
         ReplyBody::NoVisit | ReplyBody::NoEntry => StatusCode::NOT_FOUND,
         ReplyBody::Ahead | ReplyBody::Full | ReplyBody::OtherName { .. } => StatusCode::CONFLICT,
         ReplyBody::Edit(fault) => fault_code(*fault),
@@ -259,11 +274,23 @@ fn room_for(told: &ReplyBody) -> usize {
         ReplyBody::Plan { parts } => parts.as_slice().len().saturating_mul(MOST_PLACED),
         ReplyBody::Unplaced { parts } => parts.as_slice().len().saturating_mul(MOST_WAITING),
         ReplyBody::Day { visits } => visits.as_slice().len().saturating_mul(MOST_VISIT),
+        ReplyBody::Sight(sight) => room_for_sight(sight),
         ReplyBody::Visit(_) => MOST_VISIT,
         ReplyBody::Chart { text } => text.as_slice().len(),
         _ => 0,
     };
     listed.saturating_add(MOST_OTHER)
+}
+
+// The same for a picture of the stands.
+fn room_for_sight(sight: &Sight) -> usize {
+    let conflicts = sight.conflicts.as_slice().len();
+    let misfits = sight.unfit.as_slice().len();
+    let visits = sight.visits.as_slice().len();
+    conflicts
+        .saturating_mul(MOST_CONFLICT)
+        .saturating_add(misfits.saturating_mul(MOST_MISFIT))
+        .saturating_add(visits.saturating_mul(MOST_VISIT))
 }
 
 fn push_body(
@@ -298,6 +325,8 @@ fn push_body(
         } => push_entry(body, *entry, *call, desk, *kind, version),
         ReplyBody::Airport => push_airport(body, airport, version),
         ReplyBody::Day { visits } => push_day(body, airport, visits, version),
+        ReplyBody::Sight(sight) => push_sight(body, airport, sight, version),
+        ReplyBody::History { entries, digest } => push_history(body, *entries, digest, version),
         ReplyBody::NoVisit => push_refused(body, "visit", version),
         ReplyBody::NoEntry => push_refused(body, "entry", version),
         ReplyBody::Ahead => push_refused(body, "ahead", version),

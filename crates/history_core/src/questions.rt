@@ -3,18 +3,22 @@ ghost use Rattle.std.specs.Prelude.{◌≡◌, ◌≤◌, IfOk};
 ghost use Rattle.desk_words.specs.Replies.{IsTellable};
 ghost use Rattle.plan_lists.specs.Held.{held_on};
 ghost use Rattle.plan_lists.specs.OfDay.{visits_on};
+ghost use Rattle.plan_lists.specs.Sight.{sight_of};
 ghost use Rattle.plan_lists.specs.Unplaced.{unplaced_parts};
 ghost use Rattle.wall_chart.specs.Chart.{chart_text};
-ghost use Rattle.history_core.specs.Answer.{entry_told};
+ghost use Rattle.history_core.specs.Answer.{entry_told, history_told};
+ghost use Rattle.history_core.specs.Digests.{digest_at};
 ghost use Rattle.history_core.specs.History.{entry_at};
 
+use crate::chain::Chain;
 use apron_base::Memory;
 use apron_rules::Airport;
 use desk_asks::Entry;
 use desk_words::replies::ReplyBody;
 use plan_core::Plan;
-use plan_lists::{held_on, unplaced_parts, visits_on};
+use plan_lists::{held_on, sight, unplaced_parts, visits_on};
 use std::alloc::Global;
+use visit_book::Windows;
 use wall_chart::chart;
 
 /// The parts that hold a stand on a day, counted from 1. The only error is a lack of memory.
@@ -77,6 +81,21 @@ pub(crate) fn day_told(
     Ok(ReplyBody::Day { visits })
 }
 
+/// The picture of the stands in these minutes. The only error is a lack of memory.
+pub(crate) fn sight_told(
+    alloc: Global,
+    airport: &Airport,
+    plan: &Plan,
+    windows: Windows,
+) -> Result<ReplyBody, Memory>
+    requires airport { airport.now ≡ plan.now.plan.airport }
+    ensures told { IfOk result (λ news. news ≡ ReplyBody.Sight (sight_of plan.now.plan windows)) }
+    ensures tellable { IfOk result IsTellable }
+{
+    let sight = sight(alloc, airport, plan, windows)?;
+    Ok(ReplyBody::Sight(sight))
+}
+
 /// The entry of this number, counted from 1, or that there is none.
 pub(crate) fn entry_told(history: &[Entry], number: u32) -> ReplyBody
     ensures is { result ≡ entry_told number (entry_at history.now number) }
@@ -92,6 +111,18 @@ pub(crate) fn entry_told(history: &[Entry], number: u32) -> ReplyBody
             desk: entry.command.desk(),
             kind: entry.command.kind(),
         },
+        None => ReplyBody::NoEntry,
+    }
+}
+
+/// The digest of the first entries, this many, or that there are not so many.
+pub(crate) fn history_told(history: &Chain, entries: u32) -> ReplyBody
+    ensures is { result
+        ≡ history_told entries (digest_at history.now.entries.items entries) }
+    ensures tellable { IsTellable result }
+{
+    match history.digest_at(entries) {
+        Some(digest) => ReplyBody::History { entries, digest },
         None => ReplyBody::NoEntry,
     }
 }

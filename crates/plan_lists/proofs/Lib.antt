@@ -3,3 +3,4 @@ pub mod Passed
 pub mod Ranks
 pub mod OnStands
 pub mod OfDay
+pub mod InSight

@@ -3,3 +3,6 @@ pub mod Rows
 pub mod Held
 pub mod Unplaced
 pub mod OfDay
+pub mod Present
+pub mod Near
+pub mod Sight

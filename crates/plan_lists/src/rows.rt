@@ -1,5 +1,5 @@
 // Parts with their numbers, and growing lists.
-ghost use Rattle.std.specs.Prelude.{◌≡◌, ◌++◌, ◌∷◌, [], OnOk, if◌then◌else◌};
+ghost use Rattle.std.specs.Prelude.{◌≡◌, ◌++◌, ◌∷◌, [], OnOk, if◌then◌else◌, option_to_list};
 ghost use Rattle.plan_lists.specs.Rows.{row};
 
 use apron_base::{Listed, Memory, PartId};
@@ -23,6 +23,16 @@ pub(crate) fn push_if<T: Drop>(list: &mut Listed<T>, item: T, is: bool) -> Resul
     ensures ok { OnOk result (list.new ≡ list.old ++ (if is then item ∷ [] else [])) }
 {
     if is {
+        list.push(item)?;
+    }
+    Ok(())
+}
+
+// Adds the item at the end, if there is one.
+pub(crate) fn push_some<T: Drop>(list: &mut Listed<T>, item: Option<T>) -> Result<(), Memory>
+    ensures ok { OnOk result (list.new ≡ list.old ++ option_to_list item) }
+{
+    if let Some(item) = item {
         list.push(item)?;
     }
     Ok(())

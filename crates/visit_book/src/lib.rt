@@ -11,6 +11,7 @@ mod new_visits;
 mod numbers;
 mod parts;
 mod reports;
+mod sights;
 mod slots;
 mod visits;
 
@@ -23,5 +24,6 @@ pub use new_visits::{added_visit, is_in_time, new_of};
 pub use numbers::visit_at;
 pub use parts::Parts;
 pub use reports::{Event, ReportFault, is_live, report};
+pub use sights::{PresentConflict, PresentUnfit, Sight, Window, Windows};
 pub use slots::{is_actual, slot_of};
 pub use visits::{Bump, End, Key, NewVisit, Part, PartRow, Place, Visit};

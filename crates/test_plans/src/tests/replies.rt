@@ -16,6 +16,7 @@ mod entries;
 mod fixed;
 mod movements;
 mod refusals;
+mod sights;
 mod versions;
 mod visits;
 
@@ -45,6 +46,7 @@ fn is_text(alloc: Global, airport: &Airport, reply: &Reply, status: &str, body: 
         ReplyBody::Edit(EditFault::Memory) => return false,
         ReplyBody::Visit(visit) if !is_new_visit(visit) => return false,
         ReplyBody::Day { visits } if !are_new_visits(visits.as_slice()) => return false,
+        ReplyBody::Sight(sight) if !are_new_visits(sight.visits.as_slice()) => return false,
         ReplyBody::Plan { .. } | ReplyBody::Unplaced { .. } | ReplyBody::Chart { .. } =>
             return false,
         ReplyBody::Added { .. }
@@ -57,6 +59,8 @@ fn is_text(alloc: Global, airport: &Airport, reply: &Reply, status: &str, body: 
         | ReplyBody::Entry { .. }
         | ReplyBody::Airport
         | ReplyBody::Day { .. }
+        | ReplyBody::Sight(_)
+        | ReplyBody::History { .. }
         | ReplyBody::NoVisit
         | ReplyBody::NoEntry
         | ReplyBody::Ahead

@@ -43,3 +43,7 @@ returns-in-NoStand c = record { text = c.of-in-NoStand.ensures.bytes ∙ ap earl
 pub returns-in-BadTimes : goal.returns-in-BadTimes
 unfolding digits serde_json_on_literals early_text
 returns-in-BadTimes c = record { text = c.of-in-BadTimes.ensures.bytes ∙ ap early_text (sym c.in-BadTimes.is) }
+
+pub returns-in-BadMinutes : goal.returns-in-BadMinutes
+unfolding digits serde_json_on_literals early_text
+returns-in-BadMinutes c = record { text = c.of-in-BadMinutes.ensures.bytes ∙ ap early_text (sym c.in-BadMinutes.is) }

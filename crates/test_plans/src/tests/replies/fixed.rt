@@ -3,7 +3,7 @@ use desk_words::early::{EarlyReply, early_bytes};
 use desk_words::fixed::{bad_encoding, bad_head, keeper_fault, large_body, no_length, no_memory};
 use mvt_grammar::MvtFault;
 
-const EARLY: [(EarlyReply, &'static [u8]); 17] = [
+const EARLY: [(EarlyReply, &'static [u8]); 18] = [
     (
         EarlyReply::NoRoute,
         b"HTTP/1.1 404 Not Found\r\nContent-Type: application/json\r\nContent-Length: 17\r\n\r\n{\"error\":\"route\"}",
@@ -71,6 +71,10 @@ const EARLY: [(EarlyReply, &'static [u8]); 17] = [
     (
         EarlyReply::BadTimes,
         b"HTTP/1.1 422 Unprocessable Entity\r\nContent-Type: application/json\r\nContent-Length: 17\r\n\r\n{\"error\":\"times\"}",
+    ),
+    (
+        EarlyReply::BadMinutes,
+        b"HTTP/1.1 404 Not Found\r\nContent-Type: application/json\r\nContent-Length: 19\r\n\r\n{\"error\":\"minutes\"}",
     ),
 ];
 

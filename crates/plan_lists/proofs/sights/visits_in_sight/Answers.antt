@@ -1,0 +1,21 @@
+use Rattle.std.proofs.Common.{◌≡◌, arith}
+use Rattle.std.proofs.lemmas.Grind.{common_steps}
+use Rattle.std.proofs.lemmas.List.Elements.{All-same}
+use Rattle.visit_book.specs.NewVisits.{IsNewVisit, new_of}
+use Rattle.visit_book.specs.declared.visits.Visit.{Visit}
+use Rattle.plan_lists.specs.Sight.{is_in_sight, visits_in_sight}
+use Rattle.plan_lists.proofs.OfDay.{kept_are_new, one_more}
+use Rattle.plan_lists.proofs.sights.visits_in_sight.Goals as goal
+
+pub loop-visit-preserved : goal.loop-visit-preserved
+loop-visit-preserved c =
+    one_more (is_in_sight c.args.airport.now c.args.windows) c.visits-visits.result.now c.loop-visit.visit-index _ _
+    c.loop-visit.seen c.push_if.new.list c.is_in_sight.result c.loop-visit-test.true c.loop-visit.invariant
+    c.visit-item.is c.is_in_sight.ensures.is c.in_ok-push_if.ensures.ok
+
+pub returns-clause-new : goal.returns-clause-new
+returns-clause-new c =
+    let plan = c.args.plan.now.plan in
+    let is : c.loop-visit.seen ≡ visits_in_sight plan c.args.windows = grind (arith, common_steps) in
+    All-same (λ (visit : Visit). IsNewVisit (new_of visit)) c.loop-visit.seen (visits_in_sight plan c.args.windows) is
+    (kept_are_new (is_in_sight plan.airport c.args.windows) plan c.visits-visits.ensures.plan)
