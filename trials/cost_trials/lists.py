@@ -1,4 +1,4 @@
-"""What long replies cost: charts of aircraft on one stand at one minute, with the reports that make them, and lists of parts."""
+"""What long replies cost: charts of aircraft on one stand at one minute, with the reports that make them, pictures, and lists of parts."""
 
 import random
 
@@ -10,7 +10,7 @@ CHARTED, REPORTED, LAST_REPORTS = 3000, 6000, 100
 # How many are reported on one stand, if each of them meets as many of the others, and how many minutes lie between two of them.
 FEW_REPORTED, APART = 300, 3
 HELD, A_PART = 200, 0.2
-# How many visits come to each stand in two days, and how many of them are on block there.
+# How many visits two days have for each stand, and how many of them are on block there.
 PICTURED, PRESENT, TWO_DAYS = 20, 2, 2880
 
 
@@ -87,7 +87,7 @@ def waiting(room):
 
 
 def pictured(room):
-    """Visits of two days on stands, of which the first ones never leave."""
+    """Visits of two days, of which the first ones come to stands and never leave. The others wait for one."""
     stands = room.apart()
     visits = [(stand, 60 + turn * TWO_DAYS // PICTURED) for turn in range(PICTURED) for stand in stands]
     yield from (visit_of(f"V{number}", room.type(), 3, on, on + 60) for number, (_, on) in enumerate(visits, 1))
@@ -99,7 +99,8 @@ def sights(program, folder):
     room, targets = Room(folder, "large"), ("/day/1", "/day/2", f"/sight/0/{TWO_DAYS}")
     with Desk(program, room.files, room.journal("pictured", lambda: pictured(room))) as desk:
         picture = desk.ask([request("GET", targets[-1])])[0]
-        assert picture.count(b'"rule":"same"') == len(room.apart()), "the picture has other conflicts"
+        rules = picture.count(b'"rule":'), picture.count(b'"rule":"same"')
+        assert rules == (len(room.apart()),) * 2, "the picture has other conflicts"
         one, other, both = (desk.cost([request("GET", target)] * 50) for target in targets)
     yield Figure(f"GET {targets[-1]} of {PICTURED * len(room.apart())} visits", both / 1000, "ms")
     yield Figure("the visits of both days", (one + other) / 1000, "ms")
