@@ -63,6 +63,8 @@ class Draws:
             drawn.fields += [f"X-Seen: {self.version + (2000 if seen < 0.03 else 0)}"]
         if drawn.target in ("/mvt", "/reports") and self.draw.random() < 0.5:
             drawn.fields += ["X-Desk: OPS"]
+        if drawn.method == "POST" and self.draw.random() < 0.3:
+            drawn.target = f"/tries{drawn.target}"
         if self.draw.random() < 0.03:
             drawn.fields += [self.pick("Connection: close", "Connection: x, CLOSE", "Expect: 100-continue", "Host: apron")]
         drawn.version = self.draw.choices(["1.1", "1.0"], [99, 1])[0]

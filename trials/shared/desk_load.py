@@ -59,7 +59,8 @@ class Desk:
         return self.draw.choice([
             ("version_of", {}), ("unplaced", {}), ("day", {"day": self.draw.randint(1, self.airport.days)}),
             ("read", {"visit": self.draw.randint(1, self.visits + 2)}), ("entry", {"entry": self.draw.randint(1, self.seen + 2)}),
-            ("airport_of", {}), ("visits_of_day", {"day": self.draw.randint(1, self.airport.days)})])
+            ("airport_of", {}), ("visits_of_day", {"day": self.draw.randint(1, self.airport.days)}), ("try_commit", self.draft()),
+            ("try_cancel", {"visit": self.draw.randint(1, self.visits + 1)}), ("try_add", self.shared_visit(self.draw.randint(1, SHARED_VISITS)))])
 
     def visit(self, name):
         type = self.draw.choice(self.airport.types)

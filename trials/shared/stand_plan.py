@@ -1,6 +1,7 @@
 """The answers of a plan, worked out again and apart from the program: visits, commits, cancels and reads of an airport, as docs/reference/http.md
 tells them. There are no messages and reports here, so that no part is ever on block or displaced."""
 
+import copy
 import csv
 import json
 import tomllib
@@ -55,10 +56,10 @@ class Accepted:
 
 
 class Answered:
-    """A reply that leaves the plan as it is."""
+    """A reply that leaves the plan as it is; and what a command would make of the plan that only a clash refuses."""
 
     def __init__(self, code, **body):
-        self.code, self.body = code, body
+        self.code, self.body, self.install = code, body, None
 
 
 class Plan:
@@ -125,17 +126,19 @@ class Plan:
             if refusal is not None:
                 refusal.body["edit"] = number
                 return refusal
-        clash = self.first_clash(changed)
-        if clash is not None:
-            minute, a, b, rule = clash
-            a, b = ({"part": part, "visit": visit} for visit, part in (a, b))
-            return self.refused(422, "clash", a=a, b=b, minute=minute, rule=rule)
 
         def install():
             self.drafts[draft] = self.version
             for visit, parts in changed.items():
                 self.place(visit, parts)
                 self.visits[visit - 1].edited = self.version
+        clash = self.first_clash(changed)
+        if clash is not None:
+            minute, a, b, rule = clash
+            a, b = ({"part": part, "visit": visit} for visit, part in (a, b))
+            refusal = self.refused(422, "clash", a=a, b=b, minute=minute, rule=rule)
+            refusal.install = install
+            return refusal
         return Accepted({"version": self.version + 1}, install)
 
     def edit(self, changed, base, edit):
@@ -213,6 +216,28 @@ class Plan:
         for stand, begin, end, part in self.slots(parts):
             self.held[stand].setdefault(visit, []).append((begin, end, part))
 
+    def tried(self, kind, said):
+        """What a command would come to: its reply, and the visits that would differ afterwards."""
+        after = copy.copy(self)
+        after.visits, after.held = copy.deepcopy((self.visits, self.held))
+        after.names, after.drafts = dict(self.names), dict(self.drafts)
+        answer, visits = getattr(after, kind)(said), []
+        if answer.install is not None:
+            after.version += 1
+            answer.install()
+            told = [after.visit(number) for number in range(1, len(after.visits) + 1)]
+            visits = [it for it in told if it["visit"] > len(self.visits) or it != self.visit(it["visit"])]
+        return self.told(effect=None, reply={"body": answer.body, "status": answer.code}, unplaced=[], visits=visits)
+
+    def try_add(self, said):
+        return self.tried("add", said)
+
+    def try_commit(self, said):
+        return self.tried("commit", said)
+
+    def try_cancel(self, said):
+        return self.tried("cancel", said)
+
     def version_of(self, _):
         return self.told()
 
@@ -286,7 +311,8 @@ class Plan:
 TARGETS = {
     "add": ("POST", "/visits"), "commit": ("POST", "/commits"), "cancel": ("POST", "/cancels"), "version_of": ("GET", "/version"),
     "read": ("GET", "/visits/{visit}"), "day": ("GET", "/plan/{day}"), "unplaced": ("GET", "/unplaced"),
-    "entry": ("GET", "/entries/{entry}"), "airport_of": ("GET", "/airport"), "visits_of_day": ("GET", "/day/{day}")}
+    "entry": ("GET", "/entries/{entry}"), "airport_of": ("GET", "/airport"), "visits_of_day": ("GET", "/day/{day}"),
+    "try_add": ("POST", "/tries/visits"), "try_commit": ("POST", "/tries/commits"), "try_cancel": ("POST", "/tries/cancels")}
 KINDS = {"add": "visit", "commit": "commit", "cancel": "cancel"}
 COMMANDS = set(KINDS)
 

@@ -18,7 +18,7 @@ use Rattle.desk_asks.specs.declared.asks.Command.TheVariants.{AddVisit}
 use Rattle.desk_asks.specs.declared.asks.Entry.{Entry}
 use Rattle.desk_asks.specs.declared.asks.What.TheVariants.{Change}
 use Rattle.desk_words.specs.declared.replies.Reply.{Reply}
-use Rattle.history_core.specs.Answer.{ActsAs, IsAccepted, Replies, Sought, added_entries, ask_outcome, changes, keeper_fault, no_memory, replied}
+use Rattle.history_core.specs.Answer.{ActsAs, IsAccepted, Replies, Sought, Tries, added_entries, ask_outcome, changes, keeper_fault, no_memory, replied, tried}
 use Rattle.history_core.specs.AtRisk.{IsAskedFor, LeavesAtRisk}
 use Rattle.history_core.specs.History.{IsLegal, replay}
 use Rattle.history_core.specs.Laws.{HasAdded, HasVisit}
@@ -55,6 +55,8 @@ pub answered_step : (airport : AirportParts) (before after : List Entry) (call :
     → ActsAs airport before call (asking new) (Replied bytes) after → TookStep airport before call new after
 answered_step airport before after call new bytes (replied reply, is, gives) =
     replied_step airport before after call new (ask_outcome (replay airport before) before (asking new)) reply (seeks (replay airport before) before new) gives
+answered_step airport before after call new bytes (tried trial, is, gives) =
+    absurd (subst (λ (s : Sought). Tries (replay airport before) (length before) s trial) (seeks (replay airport before) before new) gives.0)
 answered_step airport before after call new bytes (no_memory, is, gives) = absurd cc
 answered_step airport before after call new bytes (keeper_fault, is, gives) = absurd cc
 
@@ -100,6 +102,7 @@ fault_stops airport number before after new (keeper_fault, is, (took, same)) nex
   only_at_risk before after new risk,
 )
 fault_stops airport number before after new (replied reply, is, gives) next counts risk = absurd cc
+fault_stops airport number before after new (tried trial, is, gives) next counts risk = absurd cc
 fault_stops airport number before after new (no_memory, is, gives) next counts risk = absurd cc
 
 -- if memory ran out nothing has changed
@@ -108,6 +111,7 @@ pub memory_stops : (airport : AirportParts) (number : ℕ) (before after : Reach
     → StopsImport airport number before new after Memory
 memory_stops airport number before after new (no_memory, is, same) next counts risk = (same, next, counts, no_more before after new risk)
 memory_stops airport number before after new (replied reply, is, gives) next counts risk = absurd cc
+memory_stops airport number before after new (tried trial, is, gives) next counts risk = absurd cc
 memory_stops airport number before after new (keeper_fault, is, gives) next counts risk = absurd cc
 
 -- if entries came, the visit was added

@@ -9,7 +9,7 @@ use Rattle.desk_asks.specs.declared.asks.Ask.{Ask}
 use Rattle.desk_asks.specs.declared.asks.Entry.{Entry}
 use Rattle.desk_words.specs.declared.early.EarlyReply.{EarlyReply}
 use Rattle.plan_core.specs.PlanState.{PlanState}
-use Rattle.history_core.specs.Answer.{Given, GivesAt, Sought, changes, keeper_fault, no_memory, replied, ask_outcome, told, added_entries}
+use Rattle.history_core.specs.Answer.{Given, GivesAt, Sought, changes, keeper_fault, no_memory, replied, ask_outcome, told, tried, tries, added_entries}
 use Rattle.history_core.specs.History.{IsLegal, replay}
 use Rattle.desk_http.specs.Alone.{AloneAsks, numbers_from}
 use Rattle.desk_http.specs.Answers.{AnswersTo, Sent, at_once, fed, given}
@@ -32,12 +32,15 @@ gives_more : (plan : PlanState) (before : List Entry) (call : ℕ) (asked : Soug
     → GoesOnFrom before after
 gives_more plan before call (told what) (replied reply) after (is, same) = none_came before after same
 gives_more plan before call (changes command) (replied reply) after (stepped, steps, is, made) = (added_entries call command stepped, made)
+gives_more plan before call (tries command) (replied reply) after is = absurd is
+gives_more plan before call asked (tried trial) after (is, same) = none_came before after same
 gives_more plan before call asked no_memory after same = none_came before after same
 gives_more plan before call asked keeper_fault after (accepted, same) = none_came before after same
 
 -- a count doesn't fall
 no_fewer : (given : Given) (before now : ℕ) → CountsGiven given before now → before ≤ now
 no_fewer (replied reply) before now counts = counts
+no_fewer (tried trial) before now counts = counts
 no_fewer no_memory before now counts = counts
 no_fewer keeper_fault before now (least, rose) = least
 

@@ -42,7 +42,8 @@ fn push_part_if(parts: &mut Listed<PartId>, id: PartId, bumped: bool) -> Result<
     Ok(())
 }
 
-fn is_bumped_by(entry: u32, place: &Place) -> bool
+/// Whether a part at this place lost its stand by the entry of this number.
+pub fn is_bumped_by(entry: u32, place: &Place) -> bool
     ensures is { result ≡ is_bumped_by entry place.now }
 {
     match place {

@@ -1,5 +1,5 @@
 -- Commands that are valid at an airport.
-use Rattle.std.specs.Prelude.{◌≡◌, ◌≤◌, ℕ, List, Option, None, Some, length, All}
+use Rattle.std.specs.Prelude.{◌≤◌, ℕ, List, Option, None, Some, IsSome, length, All}
 use Rattle.mvt_grammar.specs.Readable.{IsReadable}
 use Rattle.apron_rules.specs.declared.parts.AirportParts.{AirportParts}
 use Rattle.visit_book.specs.Edits.{IsEditOf, most_edits}
@@ -10,7 +10,8 @@ use Rattle.desk_asks.specs.declared.asks.Command.{Command}
 use Rattle.desk_asks.specs.declared.asks.Command.TheVariants.{AddVisit, Commit, Message, Report, Cancel}
 use Rattle.desk_asks.specs.declared.asks.EntryKind.{EntryKind}
 use Rattle.desk_asks.specs.declared.asks.EntryKind.TheVariants as kind
-use Rattle.desk_asks.specs.declared.asks.What.TheVariants.{Change}
+use Rattle.desk_asks.specs.declared.asks.What.{What}
+use Rattle.desk_asks.specs.declared.asks.What.TheVariants.{Change, Try}
 
 -- what kind of command it is
 abbrev pub kind_of : Command → EntryKind
@@ -49,6 +50,12 @@ IsCommandOf airport (Message passed) = IsReadable passed.message
 IsCommandOf airport (Report report) = IsEventOf airport report.event
 IsCommandOf airport (Cancel visit) = Unit {0}
 
--- a command is asked
+-- the command that is asked or tried, if one is
+abbrev pub command_in : What → Option Command
+command_in (Change command) = Some command
+command_in (Try command) = Some command
+command_in what = None
+
+-- a command is asked or tried
 abbrev pub AsksCommand : Ask → Type 0
-AsksCommand ask = (command : Command) × (ask.what ≡ Change command)
+AsksCommand ask = IsSome (command_in ask.what)

@@ -116,6 +116,8 @@ pub enum What {
     Airport,
     /// The visits that hold a stand or wait for one on this day, counted from 1.
     Day(u32),
+    /// What this command would come to, which is not taken.
+    Try(Command),
 }
 
 /// What a desk asks with one request.
@@ -127,7 +129,7 @@ pub struct Ask {
 }
 
 impl Ask {
-    /// The same ask. `Err` if there is no memory for the command that it asks.
+    /// The same ask. `Err` if there is no memory for the command that it asks or tries.
     pub fn copy(&self, alloc: Global) -> Result<Ask, Memory>
         ensures same { IfOk result (λ made. made ≡ self.now) }
         ensures command { OnErr result (AsksCommand self.now) }
@@ -142,6 +144,7 @@ impl Ask {
             What::Entry(number) => What::Entry(*number),
             What::Airport => What::Airport,
             What::Day(day) => What::Day(*day),
+            What::Try(command) => What::Try(command.copy(alloc)?),
         };
         Ok(Ask {
             seen: self.seen,

@@ -11,7 +11,7 @@ use Rattle.apron_rules.specs.declared.parts.AirportParts.{AirportParts}
 use Rattle.desk_asks.specs.declared.asks.Ask.{Ask}
 use Rattle.desk_asks.specs.declared.asks.Entry.{Entry}
 use Rattle.desk_asks.specs.declared.asks.What.{What}
-use Rattle.history_core.specs.Answer.{ActsAs, Given, GivesAnswer, replied, no_memory, keeper_fault}
+use Rattle.history_core.specs.Answer.{ActsAs, Given, GivesAnswer, replied, tried, no_memory, keeper_fault}
 use Rattle.history_core.specs.AtRisk.{LeavesAtRisk}
 use Rattle.history_core.specs.History.{IsLegal, call_limit}
 use Rattle.desk_http.specs.Alone.{AloneAsks, IsAlone, numbers_from, port_over}
@@ -54,6 +54,7 @@ risks before after call what given (inr (inr unkept)) = inr (inr unkept)
 -- a board's count of faults over an act is what its answer to the desk says
 counts_given : (given : Given) (before after : ℕ) → Counts (is_unkept given) before after → CountsGiven given before after
 counts_given (replied reply) before after same = omega (arith, same)
+counts_given (tried trial) before after same = omega (arith, same)
 counts_given no_memory before after same = omega (arith, same)
 counts_given keeper_fault before after counts = counts
 
@@ -96,16 +97,21 @@ pub alone_shows : {Fixed : Type 0} (airport : AirportParts) (before after : Mach
     → ShowsAsk AloneAsks airport (port_over first before) ask acted (port_over first after)
 alone_shows airport before after first ask (Replied bytes) h still last (replied reply, shows, gives) next counts risk =
     (replied reply, shows, turn airport before after first ask (replied reply) h still last gives next counts risk)
+alone_shows airport before after first ask (Replied bytes) h still last (tried trial, shows, gives) next counts risk =
+    (tried trial, shows, turn airport before after first ask (tried trial) h still last gives next counts risk)
 alone_shows airport before after first ask (Replied bytes) h still last (no_memory, shows, gives) next counts risk = absurd (cc)
 alone_shows airport before after first ask (Replied bytes) h still last (keeper_fault, shows, gives) next counts risk = absurd (cc)
 alone_shows airport before after first ask NoMemory h still last (replied reply, shows, gives) next counts risk = absurd (cc)
+alone_shows airport before after first ask NoMemory h still last (tried trial, shows, gives) next counts risk = absurd (cc)
 alone_shows airport before after first ask NoMemory h still last (no_memory, shows, gives) next counts risk =
     (no_memory, shows, turn airport before after first ask no_memory h still last gives next counts risk)
 alone_shows airport before after first ask NoMemory h still last (keeper_fault, shows, gives) next counts risk = absurd (cc)
 alone_shows airport before after first ask Fault h still last (replied reply, shows, gives) next counts risk = absurd (cc)
+alone_shows airport before after first ask Fault h still last (tried trial, shows, gives) next counts risk = absurd (cc)
 alone_shows airport before after first ask Fault h still last (no_memory, shows, gives) next counts risk = absurd (cc)
 alone_shows airport before after first ask Fault h still last (keeper_fault, shows, gives) next counts risk =
     (keeper_fault, shows, turn airport before after first ask keeper_fault h still last gives next counts risk)
 alone_shows airport before after first ask Spent h still last (replied reply, shows, gives) next counts risk = absurd (cc)
+alone_shows airport before after first ask Spent h still last (tried trial, shows, gives) next counts risk = absurd (cc)
 alone_shows airport before after first ask Spent h still last (no_memory, shows, gives) next counts risk = absurd (cc)
 alone_shows airport before after first ask Spent h still last (keeper_fault, shows, gives) next counts risk = absurd (cc)

@@ -16,7 +16,7 @@ use Rattle.matchit.specs.Seek.{has_slash}
 use Rattle.apron_base.specs.Digits.{are_digits, most_digits, number_of}
 use Rattle.desk_http.specs.Numbers.{within_32_bits}
 use Rattle.desk_http.specs.Table.{text_after_word}
-use Rattle.desk_http.specs.Targets.{Parameter, look_up, numbered, onto_first, pieces, plain_number, route_of, route_of_pieces, route_with, routes_of_words, routes_with_text, slash, zero_digit}
+use Rattle.desk_http.specs.Targets.{Parameter, command_named, command_words, look_up, numbered, of_command, onto_first, pieces, plain_number, route_of, route_of_pieces, route_with, routes_of_words, routes_with_text, slash, zero_digit}
 use Rattle.desk_http.specs.declared.targets.Route.{Route}
 use Rattle.desk_http.proofs.Rows.{In-left, In-map, In-right, IsOn, IsOnRow, Row, end_of, front_ascii, is_ascii, rows, same_in, text_row, word_row}
 use Rattle.desk_http.proofs.Takes.{In, by, takes, takes_on, takes_on-nil}
@@ -253,6 +253,21 @@ plain_number-digits (digit ∷ digits) n e =
       | Some m ↦ λ is e. number-digits (digit ∷ digits) m is
     ] refl e) e
 
+-- all words are ASCII
+abbrev are_ascii : {A : Type 0} → List (List ℕ × A) → Bool
+are_ascii [] = true
+are_ascii ((name, value) ∷ rows) = list_all is_ascii name && are_ascii rows
+
+-- what is looked up by such a word is looked up by a text of ASCII
+word-ascii : {A : Type 0} (rows : List (List ℕ × A)) (text : List ℕ) (found : A) → are_ascii rows ≡ true → look_up text rows ≡ Some found → IsAscii text
+word-ascii [] text found plain e = absurd (cc)
+word-ascii ((name, value) ∷ rows) text found plain e =
+    let parts = and_parts (list_all is_ascii name) (are_ascii rows) plain in
+    let later = word-ascii rows text found parts.1 in
+    by (λ v. cond v (Some value) (look_up text rows) ≡ Some found → IsAscii text) (bytes_eq text name)
+    (λ same _. let is : name ≡ text = sym ((bytes_eq-Decides text name).0 same) in subst IsAscii is (all-ascii is_ascii (λ byte. ltb-true byte 128) name parts.0))
+    (λ _ e. later e) e
+
 -- a text that names a route is ASCII
 read-ascii : (text : List ℕ) (parameter : Parameter) (found : Route) → route_with text parameter ≡ Some found → IsAscii text
 read-ascii text (numbered route) found e =
@@ -260,10 +275,16 @@ read-ascii text (numbered route) found e =
       | None ↦ λ _ e. absurd (cc)
       | Some n ↦ λ is _. all-ascii is_ascii_digit digit-ascii text (plain_number-digits text n is)
     ] refl e
+read-ascii text (of_command route) found e =
+    elim (command_named text) as (λ o. command_named text ≡ o → option_map route o ≡ Some found → IsAscii text) [
+      | None ↦ λ _ e. absurd (cc)
+      | Some command ↦ λ is _. word-ascii command_words text command refl is
+    ] refl e
 
 -- the empty text names none
 read-nil : (parameter : Parameter) → route_with [] parameter ≡ None
 read-nil (numbered route) = refl
+read-nil (of_command route) = refl
 
 -- a parameter takes a text that names a route
 takes-text : (text : List ℕ) (parameter : Parameter) (found : Route) → has_slash text ≡ false → route_with text parameter ≡ Some found → takes (256 ∷ []) text ≡ true

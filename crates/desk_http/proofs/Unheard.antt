@@ -6,7 +6,7 @@ use Rattle.desk_asks.specs.declared.asks.Ask.{Ask}
 use Rattle.desk_asks.specs.declared.asks.Entry.{Entry}
 use Rattle.desk_asks.specs.declared.asks.What.{What}
 use Rattle.desk_words.specs.declared.replies.ReplyBody.TheVariants.{Ahead, Version as ToldVersion}
-use Rattle.history_core.specs.Answer.{Given, GivesAt, IsAccepted, Replies, Sought, ask_outcome, keeper_fault, no_memory, replied, told}
+use Rattle.history_core.specs.Answer.{Given, GivesAt, IsAccepted, Replies, Sought, ask_outcome, keeper_fault, no_memory, replied, told, tried}
 use Rattle.history_core.specs.History.{replay}
 use Rattle.desk_http.specs.FeedPorts.{version_ask}
 use Rattle.desk_http.specs.Ports.{CountsGiven, PortState, RisksGiven, Turn, is_unkept}
@@ -26,12 +26,14 @@ leaves_same plan before after call (replied reply) gives =
       | inl h ↦ h.1
       | inr h ↦ h.1
     ]
+leaves_same plan before after call (tried trial) gives = gives.1
 leaves_same plan before after call no_memory gives = gives
 leaves_same plan before after call keeper_fault gives = gives.1
 
 -- and is given no failed append
 none_failed : (plan : PlanState) (before after : List Entry) (call : ℕ) (given : Given) → GivesAt plan before call (ask_outcome plan before version_ask) given after → is_unkept given ≡ false
 none_failed plan before after call (replied reply) gives = refl
+none_failed plan before after call (tried trial) gives = refl
 none_failed plan before after call no_memory gives = refl
 none_failed plan before after call keeper_fault gives =
     elim (version_sought plan before (IsAccepted plan (length before)) gives.0) [
@@ -47,6 +49,7 @@ risks before after call what other given kept (inr (inr (failed, entry))) = absu
 
 counts : (given : Given) (before now : ℕ) → CountsGiven given before now → before ≤ now
 counts (replied reply) before now h = h
+counts (tried trial) before now h = h
 counts no_memory before now h = h
 counts keeper_fault before now h = h.0
 

@@ -5,9 +5,8 @@ use Rattle.apron_rules.specs.declared.parts.AirportParts.{AirportParts}
 use Rattle.visit_book.specs.declared.edits.Edit.{Edit}
 use Rattle.visit_book.specs.declared.edits.Edit.TheVariants.{Put, Lift, Cut, Join}
 use Rattle.desk_bodies.specs.Commits.{EditSaid, put, lift, cut, join, body_commit}
+use Rattle.desk_asks.specs.declared.asks.Command.{Command}
 use Rattle.desk_asks.specs.declared.asks.Command.TheVariants.{Commit}
-use Rattle.desk_asks.specs.declared.asks.What.{What}
-use Rattle.desk_asks.specs.declared.asks.What.TheVariants.{Change}
 use Rattle.desk_words.specs.declared.early.EarlyReply.{EarlyReply}
 use Rattle.desk_words.specs.declared.early.EarlyReply.TheVariants.{NotJson, BadStand}
 use Rattle.desk_http.specs.Names.{stand_named}
@@ -31,13 +30,13 @@ edits_named airport number (said ∷ more) = do
   Ok (edit ∷ edits)
 
 -- what is asked with this body
-abbrev pub commit_asked : AirportParts → List ℕ → Result What EarlyReply
+abbrev pub commit_asked : AirportParts → List ℕ → Result Command EarlyReply
 commit_asked airport body = do
   said ← ok_or (body_commit body) NotJson
   edits ← edits_named airport 1 said.edits
-  Ok (Change (Commit (record {
+  Ok (Commit (record {
     desk = said.desk;
     number = said.draft;
     base = said.base;
     edits = edits;
-  })))
+  }))

@@ -13,6 +13,7 @@ pub mod Desks
 pub mod VisitsRoute
 pub mod MessagesRoute
 pub mod ReportsRoute
+pub mod CommandRoutes
 pub mod Routes
 pub mod Answers
 pub mod Session

@@ -5,9 +5,8 @@ use Rattle.apron_rules.specs.declared.parts.AirportParts.{AirportParts}
 use Rattle.visit_book.specs.declared.reports.Event.{Event}
 use Rattle.visit_book.specs.declared.reports.Event.TheVariants.{On, Off}
 use Rattle.desk_bodies.specs.Reports.{EventSaid, body_cancel, body_report, off, on}
+use Rattle.desk_asks.specs.declared.asks.Command.{Command}
 use Rattle.desk_asks.specs.declared.asks.Command.TheVariants.{Cancel, Report}
-use Rattle.desk_asks.specs.declared.asks.What.{What}
-use Rattle.desk_asks.specs.declared.asks.What.TheVariants.{Change}
 use Rattle.desk_words.specs.declared.early.EarlyReply.{EarlyReply}
 use Rattle.desk_words.specs.declared.early.EarlyReply.TheVariants.{NoStand, NotJson}
 use Rattle.desk_http.specs.Names.{stand_named}
@@ -20,14 +19,14 @@ event_named airport (on part text minute) = do
 event_named airport (off minute) = Ok (Off minute)
 
 -- what a desk of this name asks with the body of a report
-abbrev pub report_asked : AirportParts → List ℕ → List ℕ → Result What EarlyReply
+abbrev pub report_asked : AirportParts → List ℕ → List ℕ → Result Command EarlyReply
 report_asked airport desk body = do
   said ← ok_or (body_report body) NotJson
   event ← event_named airport said.event
-  Ok (Change (Report (record { desk = desk; visit = record { 0 = said.visit }; event = event })))
+  Ok (Report (record { desk = desk; visit = record { 0 = said.visit }; event = event }))
 
 -- what is asked with the body of a cancel
-abbrev pub cancel_asked : List ℕ → Result What EarlyReply
+abbrev pub cancel_asked : List ℕ → Result Command EarlyReply
 cancel_asked body = do
   visit ← ok_or (body_cancel body) NotJson
-  Ok (Change (Cancel (record { 0 = visit })))
+  Ok (Cancel (record { 0 = visit }))

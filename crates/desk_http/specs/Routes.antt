@@ -1,5 +1,5 @@
 -- What a request asks of the plan, or the reply that is fixed before the plan is consulted.
-use Rattle.std.specs.Prelude.{◌≡◌, ℕ, Bool, true, false, not, List, codes, Option, None, Some, Result, Ok, ok_or, IsSome, if◌then◌else◌}
+use Rattle.std.specs.Prelude.{◌≡◌, ℕ, Bool, not, List, codes, Option, None, Some, Result, Ok, ok_or, IsSome, if◌then◌else◌}
 use Rattle.std.specs.Str.{bytes_eq}
 use Rattle.apron_base.specs.ResultChain.{◌>>=◌, refuse_if}
 use Rattle.apron_rules.specs.declared.parts.AirportParts.{AirportParts}
@@ -14,36 +14,18 @@ use Rattle.desk_asks.specs.declared.asks.What.TheVariants as what
 use Rattle.desk_words.specs.declared.early.EarlyReply.{EarlyReply}
 use Rattle.desk_words.specs.declared.early.EarlyReply.TheVariants.{NoRoute, OnlyGet, OnlyPost, BadSeen, BadDesk}
 use Rattle.desk_http.specs.Numbers.{within_32_bits}
-use Rattle.desk_http.specs.CommitsRoute.{commit_asked}
+use Rattle.desk_http.specs.CommandRoutes.{BodyKind, command_asked, command_body, command_desk, is_read, json, passed_over}
 use Rattle.desk_http.specs.DaysRoute.{day_asked}
 use Rattle.desk_http.specs.Desks.{desk_named, no_desk}
-use Rattle.desk_http.specs.MessagesRoute.{message_asked}
-use Rattle.desk_http.specs.ReportsRoute.{cancel_asked, report_asked}
-use Rattle.desk_http.specs.VisitsRoute.{visit_added}
 use Rattle.desk_http.specs.Targets.{route_of}
 use Rattle.desk_http.specs.declared.targets.Route.{Route}
-use Rattle.desk_http.specs.declared.targets.Route.TheVariants.{Visits, Commits, Mvt, Reports, Cancels, Version, Unplaced, Airport, Visit, Entry, Plan, Chart, Day}
-
--- what is done with the body of a request: it is passed over, or read as a text or as JSON
-pub data BodyKind : Type 0 where
-  passed_over : BodyKind
-  text : BodyKind
-  json : BodyKind
+use Rattle.desk_http.specs.declared.targets.Route.TheVariants.{Take, Version, Unplaced, Airport, Visit, Entry, Plan, Chart, Day, Try}
 
 -- what is done with the body of the requests of a route
 abbrev pub body_of : Route → BodyKind
-body_of Visits = json
-body_of Commits = json
-body_of Mvt = text
-body_of Reports = json
-body_of Cancels = json
+body_of (Take route) = command_body route
+body_of (Try route) = command_body route
 body_of route = passed_over
-
--- whether a body is read
-abbrev pub is_read : BodyKind → Bool
-is_read passed_over = false
-is_read text = true
-is_read json = true
 
 -- whether a body comes with the requests of a route
 abbrev pub takes_body : Route → Bool
@@ -65,8 +47,8 @@ seen_version Wrong = None
 
 -- the desk of a request of this route that told this desk: `-` if the route passes the field over
 abbrev pub desk_for : Route → Option (List ℕ) → Option (List ℕ)
-desk_for Mvt desk = desk
-desk_for Reports desk = desk
+desk_for (Take route) desk = command_desk route desk
+desk_for (Try route) desk = command_desk route desk
 desk_for route desk = Some no_desk
 
 -- what is looked at for what a request asks; a version or a desk that was not told as it has to be
@@ -116,11 +98,9 @@ pub record ReadsBody (said : Said) : Type 0 where
 
 -- what a desk asks of a route with this body: a day has no body, and its number is looked at
 abbrev pub what_asked : AirportParts → Route → List ℕ → List ℕ → Result What EarlyReply
-what_asked airport Visits desk body = visit_added airport body
-what_asked airport Commits desk body = commit_asked airport body
-what_asked airport Mvt desk body = message_asked desk body
-what_asked airport Reports desk body = report_asked airport desk body
-what_asked airport Cancels desk body = cancel_asked body
+what_asked airport (Take route) desk body = do
+  command ← command_asked airport route desk body
+  Ok (what.Change command)
 what_asked airport Version desk body = Ok what.Version
 what_asked airport Unplaced desk body = Ok what.Unplaced
 what_asked airport Airport desk body = Ok what.Airport
@@ -129,6 +109,9 @@ what_asked airport (Entry number) desk body = Ok (what.Entry number)
 what_asked airport (Plan day) desk body = day_asked airport day (what.Plan day)
 what_asked airport (Chart day) desk body = day_asked airport day (what.Chart day)
 what_asked airport (Day day) desk body = day_asked airport day (what.Day day)
+what_asked airport (Try route) desk body = do
+  command ← command_asked airport route desk body
+  Ok (what.Try command)
 
 -- what is asked, or the first reply that is fixed: by the target and the method, then by the
 -- version that the desk says it has seen, then by the desk's name, then by the day or the body

@@ -6,10 +6,11 @@ use Rattle.matchit.specs.Order.{placed}
 use Rattle.matchit.specs.Route.{Scan, parse_route}
 use Rattle.matchit.specs.Router.{RouteOf, route_from}
 use Rattle.matchit.specs.declared.error.InsertError.{InsertError}
-use Rattle.desk_http.specs.Targets.{plain_number, slash}
+use Rattle.desk_http.specs.Targets.{command_named, plain_number, slash}
 use Rattle.desk_http.specs.declared.targets.TheConstants.{PATTERNS}
 use Rattle.desk_http.specs.declared.targets.Endpoint.{Endpoint}
-use Rattle.desk_http.specs.declared.targets.Endpoint.TheVariants.{Visits, Commits, Mvt, Reports, Cancels, Version, Unplaced, Airport, Visit, Entry, Plan, Chart, Day}
+use Rattle.desk_http.specs.declared.targets.Endpoint.TheVariants.{Visits, Commits, Mvt, Reports, Cancels, Version, Unplaced, Airport, Visit, Entry, Plan, Chart, Day, Try}
+use Rattle.desk_http.specs.declared.targets.CommandRoute.TheVariants as command
 use Rattle.desk_http.specs.declared.targets.Route.{Route}
 use Rattle.desk_http.specs.declared.targets.Route.TheVariants as route
 
@@ -44,11 +45,11 @@ text_after_word (byte ∷ rest) =
 
 -- the route of an endpoint's target with this text after its word
 abbrev pub route_at : Endpoint → List ℕ → Option Route
-route_at Visits text = Some route.Visits
-route_at Commits text = Some route.Commits
-route_at Mvt text = Some route.Mvt
-route_at Reports text = Some route.Reports
-route_at Cancels text = Some route.Cancels
+route_at Visits text = Some (route.Take command.Visits)
+route_at Commits text = Some (route.Take command.Commits)
+route_at Mvt text = Some (route.Take command.Mvt)
+route_at Reports text = Some (route.Take command.Reports)
+route_at Cancels text = Some (route.Take command.Cancels)
 route_at Version text = Some route.Version
 route_at Unplaced text = Some route.Unplaced
 route_at Airport text = Some route.Airport
@@ -57,3 +58,4 @@ route_at Entry text = option_map route.Entry (plain_number text)
 route_at Plan text = option_map route.Plan (plain_number text)
 route_at Chart text = option_map route.Chart (plain_number text)
 route_at Day text = option_map route.Day (plain_number text)
+route_at Try text = option_map route.Try (command_named text)

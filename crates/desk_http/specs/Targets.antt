@@ -4,21 +4,34 @@ use Rattle.std.specs.Option.{option_and_then}
 use Rattle.std.specs.Str.{bytes_eq}
 use Rattle.apron_base.specs.Digits.{most_digits, number_of}
 use Rattle.desk_http.specs.Numbers.{within_32_bits}
+use Rattle.desk_http.specs.declared.targets.CommandRoute.{CommandRoute}
+use Rattle.desk_http.specs.declared.targets.CommandRoute.TheVariants.{Visits, Commits, Mvt, Reports, Cancels}
 use Rattle.desk_http.specs.declared.targets.Route.{Route}
-use Rattle.desk_http.specs.declared.targets.Route.TheVariants.{Visits, Commits, Mvt, Reports, Cancels, Version, Unplaced, Airport, Visit, Entry, Plan, Chart, Day}
+use Rattle.desk_http.specs.declared.targets.Route.TheVariants.{Take, Version, Unplaced, Airport, Visit, Entry, Plan, Chart, Day, Try}
 
--- how a text after a word names a route: by a number
+-- how a text after a word names a route: by a number, or by the word of a command
 pub data Parameter : Type 0 where
   numbered : (ℕ → Route) → Parameter
+  of_command : (CommandRoute → Route) → Parameter
 
--- the routes that a word alone names, each with its word
-abbrev pub routes_of_words : List (List ℕ × Route)
-routes_of_words =
+-- the routes of commands, each with its word
+abbrev pub command_words : List (List ℕ × CommandRoute)
+command_words =
     (codes "visits", Visits)
     ∷ (codes "commits", Commits)
     ∷ (codes "mvt", Mvt)
     ∷ (codes "reports", Reports)
     ∷ (codes "cancels", Cancels)
+    ∷ []
+
+-- the routes that a word alone names, each with its word
+abbrev pub routes_of_words : List (List ℕ × Route)
+routes_of_words =
+    (codes "visits", Take Visits)
+    ∷ (codes "commits", Take Commits)
+    ∷ (codes "mvt", Take Mvt)
+    ∷ (codes "reports", Take Reports)
+    ∷ (codes "cancels", Take Cancels)
     ∷ (codes "version", Version)
     ∷ (codes "unplaced", Unplaced)
     ∷ (codes "airport", Airport)
@@ -32,6 +45,7 @@ routes_with_text =
     ∷ (codes "plan", numbered Plan)
     ∷ (codes "chart", numbered Chart)
     ∷ (codes "day", numbered Day)
+    ∷ (codes "tries", of_command Try)
     ∷ []
 
 -- what stands at this word
@@ -65,9 +79,14 @@ plain_number (digit ∷ digits) =
     if digit == zero_digit then None
     else option_and_then within_32_bits (number_of (digit ∷ digits) most_digits)
 
+-- the route of a command with this word
+abbrev pub command_named : List ℕ → Option CommandRoute
+command_named word = look_up word command_words
+
 -- the route that this text names
 abbrev pub route_with : List ℕ → Parameter → Option Route
 route_with text (numbered route) = option_map route (plain_number text)
+route_with text (of_command route) = option_map route (command_named text)
 
 -- the route that the pieces of a target name: a slash and a word, or a slash, a word, a slash and
 -- a text

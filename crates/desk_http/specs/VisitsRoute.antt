@@ -5,9 +5,8 @@ use Rattle.apron_rules.specs.declared.parts.AirportParts.{AirportParts}
 use Rattle.visit_book.specs.NewVisits.{is_in_time}
 use Rattle.visit_book.specs.declared.visits.NewVisit.{NewVisit}
 use Rattle.desk_bodies.specs.Visits.{VisitSaid, body_visit}
+use Rattle.desk_asks.specs.declared.asks.Command.{Command}
 use Rattle.desk_asks.specs.declared.asks.Command.TheVariants.{AddVisit}
-use Rattle.desk_asks.specs.declared.asks.What.{What}
-use Rattle.desk_asks.specs.declared.asks.What.TheVariants.{Change}
 use Rattle.desk_words.specs.declared.early.EarlyReply.{EarlyReply}
 use Rattle.desk_words.specs.declared.early.EarlyReply.TheVariants.{NotJson, BadType, BadTimes}
 use Rattle.desk_http.specs.Names.{type_named}
@@ -27,9 +26,9 @@ new_named airport said = do
   })
 
 -- what is asked with this body
-abbrev pub visit_added : AirportParts → List ℕ → Result What EarlyReply
+abbrev pub visit_added : AirportParts → List ℕ → Result Command EarlyReply
 visit_added airport body = do
   said ← ok_or (body_visit body) NotJson
   new ← new_named airport said
   in_time ← refuse_if (not (is_in_time airport new)) BadTimes
-  Ok (Change (AddVisit new))
+  Ok (AddVisit new)

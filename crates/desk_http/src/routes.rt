@@ -3,13 +3,15 @@ ghost use Rattle.std.specs.Prelude.{◌≡◌, Ok, Err, IfOk, MatchOption, OnErr
 ghost use Rattle.history_core.specs.History.{IsAskOf, IsWhatOf};
 ghost use Rattle.http_framing.specs.Fields.{text_shown};
 ghost use Rattle.desk_http.specs.Desks.{desk_named as desk_named_lem};
-ghost use Rattle.desk_http.specs.Routes.{ReadsBody, asked_by as asked_by_lem, body_of, desk_for as desk_for_lem, json, method_of as method_of_lem, only as only_lem, route_taken as route_taken_lem, said_by, seen_version as seen_of_lem, takes_body as takes_body_lem, what_asked as what_asked_lem};
+ghost use Rattle.desk_asks.specs.Commands.{IsCommandOf};
+ghost use Rattle.desk_http.specs.CommandRoutes.{command_asked as command_asked_lem, command_body, command_desk as command_desk_lem, json};
+ghost use Rattle.desk_http.specs.Routes.{ReadsBody, asked_by as asked_by_lem, body_of, desk_for as desk_for_lem, method_of as method_of_lem, only as only_lem, route_taken as route_taken_lem, said_by, seen_version as seen_of_lem, takes_body as takes_body_lem, what_asked as what_asked_lem};
 
 use crate::numbers::within_32_bits;
-use crate::targets::{DeskRoutes, Route};
+use crate::targets::{CommandRoute, DeskRoutes, Route};
 use apron_base::{Memory, Name};
 use apron_rules::Airport;
-use desk_asks::{Ask, What};
+use desk_asks::{Ask, Command, What};
 use desk_bodies::BodyFault;
 use desk_words::early::EarlyReply;
 use http_framing::{FieldNumber, FieldText, RequestParts};
@@ -71,7 +73,7 @@ fn takes_body(route: &Route) -> bool
     ensures is { result ≡ takes_body_lem route.now }
 {
     match route {
-        Route::Visits | Route::Commits | Route::Mvt | Route::Reports | Route::Cancels => true,
+        Route::Take(_) | Route::Try(_) => true,
         _ => false,
     }
 }
@@ -109,7 +111,16 @@ fn desk_for(route: &Route, desk: FieldText<'_>) -> Option<Name>
     ensures desk { result ≡ desk_for_lem route.now (desk_named_lem (text_shown desk.entry)) }
 {
     match route {
-        Route::Mvt | Route::Reports => desk_named(desk),
+        Route::Take(route) | Route::Try(route) => command_desk(*route, desk),
+        _ => Some(no_desk()),
+    }
+}
+
+fn command_desk(route: CommandRoute, desk: FieldText<'_>) -> Option<Name>
+    ensures desk { result ≡ command_desk_lem route (desk_named_lem (text_shown desk.entry)) }
+{
+    match route {
+        CommandRoute::Mvt | CommandRoute::Reports => desk_named(desk),
         _ => Some(no_desk()),
     }
 }
@@ -128,11 +139,10 @@ fn what_asked(
     ensures valid { IfOk result (λ found. IfOk found (IsWhatOf airport.now)) }
 {
     Ok(match *route {
-        Route::Visits => visit_added(alloc, airport, body)?,
-        Route::Commits => commit_asked(alloc, airport, body)?,
-        Route::Mvt => message_asked(desk, body),
-        Route::Reports => report_asked(alloc, airport, desk, body)?,
-        Route::Cancels => cancel_asked(alloc, body)?,
+        Route::Take(route) => {
+            let found = command_asked(alloc, airport, route, desk, body)?;
+            found.map(|command| What::Change(command))
+        }
         Route::Version => Ok(What::Version),
         Route::Unplaced => Ok(What::Unplaced),
         Route::Airport => Ok(What::Airport),
@@ -141,7 +151,33 @@ fn what_asked(
         Route::Plan(day) => day_asked(airport, day, What::Plan(day)),
         Route::Chart(day) => day_asked(airport, day, What::Chart(day)),
         Route::Day(day) => day_asked(airport, day, What::Day(day)),
+        Route::Try(route) => {
+            let found = command_asked(alloc, airport, route, desk, body)?;
+            found.map(|command| What::Try(command))
+        }
     })
+}
+
+// The command that comes at this route.
+fn command_asked(
+    alloc: Global,
+    airport: &Airport,
+    route: CommandRoute,
+    desk: Name,
+    body: &[u8],
+) -> Result<Result<Command, EarlyReply>, Memory>
+    ensures asked { IfOk result (λ found.
+        found ≡ command_asked_lem airport.now route desk body.now) }
+    ensures memory { OnErr result (command_body route ≡ json) }
+    ensures valid { IfOk result (λ found. IfOk found (IsCommandOf airport.now)) }
+{
+    match route {
+        CommandRoute::Visits => visit_added(alloc, airport, body),
+        CommandRoute::Commits => commit_asked(alloc, airport, body),
+        CommandRoute::Mvt => Ok(message_asked(desk, body)),
+        CommandRoute::Reports => report_asked(alloc, airport, desk, body),
+        CommandRoute::Cancels => cancel_asked(alloc, body),
+    }
 }
 
 // What was read of a body, if it has the form. `Err` if there was no memory to read it.

@@ -1,7 +1,7 @@
 // What the target of a request names.
 ghost use Rattle.std.specs.Prelude.{◌≡◌, ◌==◌, ◌<◌, IfOk, IfSome, OnOk, length, position};
 ghost use Rattle.desk_http.specs.Table.{route_at as route_at_lem, table, text_after_word as text_after_word_lem, with_route, with_routes};
-ghost use Rattle.desk_http.specs.Targets.{plain_number as plain_number_lem, route_of as route_of_lem, slash};
+ghost use Rattle.desk_http.specs.Targets.{command_named as command_named_lem, plain_number as plain_number_lem, route_of as route_of_lem, slash};
 
 use crate::numbers::within_32_bits;
 use apron_base::{MAX_DIGITS, Memory, number_of};
@@ -24,16 +24,24 @@ pub(crate) enum Endpoint {
     Plan,
     Chart,
     Day,
+    Try,
 }
 
-/// What a target names.
+/// What kind of command comes.
 #[derive(Clone, Copy, Debug, PartialEq, Eq)]
-pub(crate) enum Route {
+pub(crate) enum CommandRoute {
     Visits,
     Commits,
     Mvt,
     Reports,
     Cancels,
+}
+
+/// What a target names.
+#[derive(Clone, Copy, Debug, PartialEq, Eq)]
+pub(crate) enum Route {
+    /// A command comes.
+    Take(CommandRoute),
     Version,
     Unplaced,
     Airport,
@@ -47,11 +55,13 @@ pub(crate) enum Route {
     Chart(u32),
     /// The visits of this day.
     Day(u32),
+    /// A command comes that is tried and not taken.
+    Try(CommandRoute),
 }
 
 /// All endpoints with the router's patterns of their targets, in the order of the definition's two
 /// lists.
-const PATTERNS: [(&str, Endpoint); 13] = [
+const PATTERNS: [(&str, Endpoint); 14] = [
     ("/visits", Endpoint::Visits),
     ("/commits", Endpoint::Commits),
     ("/mvt", Endpoint::Mvt),
@@ -65,6 +75,7 @@ const PATTERNS: [(&str, Endpoint); 13] = [
     ("/plan/{n}", Endpoint::Plan),
     ("/chart/{n}", Endpoint::Chart),
     ("/day/{n}", Endpoint::Day),
+    ("/tries/{n}", Endpoint::Try),
 ];
 
 /// The routes of a desk.
@@ -130,11 +141,11 @@ fn route_at(endpoint: Endpoint, text: &[u8]) -> Option<Route>
     ensures is { result ≡ route_at_lem endpoint text.now }
 {
     Some(match endpoint {
-        Endpoint::Visits => Route::Visits,
-        Endpoint::Commits => Route::Commits,
-        Endpoint::Mvt => Route::Mvt,
-        Endpoint::Reports => Route::Reports,
-        Endpoint::Cancels => Route::Cancels,
+        Endpoint::Visits => Route::Take(CommandRoute::Visits),
+        Endpoint::Commits => Route::Take(CommandRoute::Commits),
+        Endpoint::Mvt => Route::Take(CommandRoute::Mvt),
+        Endpoint::Reports => Route::Take(CommandRoute::Reports),
+        Endpoint::Cancels => Route::Take(CommandRoute::Cancels),
         Endpoint::Version => Route::Version,
         Endpoint::Unplaced => Route::Unplaced,
         Endpoint::Airport => Route::Airport,
@@ -143,7 +154,22 @@ fn route_at(endpoint: Endpoint, text: &[u8]) -> Option<Route>
         Endpoint::Plan => Route::Plan(plain_number(text)?),
         Endpoint::Chart => Route::Chart(plain_number(text)?),
         Endpoint::Day => Route::Day(plain_number(text)?),
+        Endpoint::Try => Route::Try(command_named(text)?),
     })
+}
+
+// The route of a command with this word.
+fn command_named(word: &[u8]) -> Option<CommandRoute>
+    ensures is { result ≡ command_named_lem word.now }
+{
+    match word {
+        b"visits" => Some(CommandRoute::Visits),
+        b"commits" => Some(CommandRoute::Commits),
+        b"mvt" => Some(CommandRoute::Mvt),
+        b"reports" => Some(CommandRoute::Reports),
+        b"cancels" => Some(CommandRoute::Cancels),
+        _ => None,
+    }
 }
 
 // The text after the second slash of a target that begins with a slash; empty if there is none.

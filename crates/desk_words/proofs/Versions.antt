@@ -6,6 +6,7 @@ use Rattle.std.specs.Fmt.{digits}
 use Rattle.std.proofs.lemmas.List.Elements.{All-cons, All-nil}
 use Rattle.http.specs.StatusCode.{status_text}
 use Rattle.serde_json.proofs.OnLiterals.{serde_json_on_literals}
+use Rattle.serde_json.specs.Written.{compact_text}
 use Rattle.apron_rules.specs.declared.parts.AirportParts.{AirportParts}
 use Rattle.mvt_grammar.specs.declared.message.MvtFault.{MvtFault}
 use Rattle.mvt_grammar.specs.declared.message.MvtFault.TheVariants.{TooLong, NoIdentifier, BadFlightLine, BadElement, Twice}
@@ -14,12 +15,14 @@ use Rattle.visit_book.specs.declared.edits.EditFault.TheVariants.{UnknownVisit, 
 use Rattle.desk_words.specs.declared.early.EarlyReply.{EarlyReply}
 use Rattle.desk_words.specs.declared.early.EarlyReply.TheVariants.{NoRoute, OnlyGet, OnlyPost, BadSeen, BadDesk, NoDay, NotJson, NotMvt, BadType, BadStand, NoStand, BadTimes}
 use Rattle.desk_words.specs.declared.replies.Reply.{Reply}
+use Rattle.desk_words.specs.declared.trials.Trial.{Trial}
 use Rattle.desk_words.specs.declared.replies.ReplyBody.{ReplyBody}
 use Rattle.desk_words.specs.declared.replies.ReplyBody.TheVariants.{Added, Committed, Message, Reported, Cancelled, Version, Visit as AVisit, Plan, Unplaced, Chart, Entry, Airport, Day, NoVisit, NoEntry, Ahead, Full, OtherName, Edit, Denied}
 use Rattle.desk_words.specs.Early.{early_text}
 use Rattle.desk_words.specs.Fixed.{fixed_texts, no_memory_text, keeper_fault_text, bad_encoding_text, bad_head_text, large_body_text, no_length_text}
 use Rattle.desk_words.specs.Replies.{body_text, fault_code, media_of, reply_text, status_code}
-use Rattle.desk_words.specs.Texts.{shows_version, text_of, version_line}
+use Rattle.desk_words.specs.Texts.{json_media, shows_version, text_of, version_line}
+use Rattle.desk_words.specs.Trials.{trial_data, trial_text}
 use Rattle.desk_words.proofs.Apart.{both}
 use Rattle.desk_words.proofs.Lines.{behind_lines_of, is_one_line}
 use Rattle.desk_words.proofs.Numbered.{element_behind, stand_behind, twice_behind}
@@ -92,6 +95,10 @@ pub reply_shows : (airport : AirportParts) (reply : Reply) → shows_version (re
 unfolding reply_text
 reply_shows airport reply = version_shows (status_code reply.told) reply.version (media_of reply.told) (body_text airport reply.version reply.told) (code_one_line reply.told) (media_one_line reply.told)
 
+pub trial_shows : (airport : AirportParts) (trial : Trial) → shows_version (trial_text airport trial) ≡ true
+unfolding digits trial_text
+trial_shows airport trial = version_shows 200 trial.version json_media (compact_text (trial_data airport trial)) refl refl
+
 mvt_fault_shows_none : (fault : MvtFault) → shows_version (early_text (NotMvt fault)) ≡ false
 unfolding digits serde_json_on_literals early_text
 mvt_fault_shows_none TooLong = refl
@@ -139,3 +146,9 @@ reply_not_early airport reply early = told_apart (reply_text airport reply) (ear
 
 pub reply_not_fixed : (airport : AirportParts) (reply : Reply) → All (λ text. reply_text airport reply ≢ text) fixed_texts
 reply_not_fixed airport reply = λ k d below. told_apart (reply_text airport reply) (slice_index_or fixed_texts k d) (reply_shows airport reply) (fixed_show_none k d below)
+
+pub trial_not_early : (airport : AirportParts) (trial : Trial) (early : EarlyReply) → trial_text airport trial ≢ early_text early
+trial_not_early airport trial early = told_apart (trial_text airport trial) (early_text early) (trial_shows airport trial) (early_shows_none early)
+
+pub trial_not_fixed : (airport : AirportParts) (trial : Trial) → All (λ text. trial_text airport trial ≢ text) fixed_texts
+trial_not_fixed airport trial = λ k d below. told_apart (trial_text airport trial) (slice_index_or fixed_texts k d) (trial_shows airport trial) (fixed_show_none k d below)

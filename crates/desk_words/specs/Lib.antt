@@ -9,4 +9,5 @@ pub mod RowObjects
 pub mod EntryObjects
 pub mod AirportObjects
 pub mod Replies
+pub mod Trials
 pub mod Spelt

@@ -15,4 +15,5 @@ mod part_objects;
 pub mod replies;
 mod row_objects;
 pub mod short;
+pub mod trials;
 mod visit_objects;

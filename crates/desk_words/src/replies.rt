@@ -32,12 +32,12 @@ const MOST_PART: usize = 32;
 
 const MOST_PLACED: usize = 104;
 
-const MOST_WAITING: usize = 198;
+pub(crate) const MOST_WAITING: usize = 198;
 
-const MOST_VISIT: usize = 876;
+pub(crate) const MOST_VISIT: usize = 876;
 
 // More than the bytes of any body but its listed items, unless it is the airport's.
-const MOST_OTHER: usize = 256;
+pub(crate) const MOST_OTHER: usize = 256;
 
 /// What came of what was asked.
 #[derive(Debug, Drop)]
@@ -161,7 +161,8 @@ fn with_body(alloc: Global, reply: &Reply, body: &[u8]) -> Result<Listed<u8>, Me
     )
 }
 
-fn code(told: &ReplyBody) -> StatusCode
+/// The code for what a reply says.
+pub(crate) fn code(told: &ReplyBody) -> StatusCode
     ensures is { result ≡ status_code told.now }
 {
     match told {
@@ -266,7 +267,8 @@ fn room_for(told: &ReplyBody) -> usize {
     listed.saturating_add(MOST_OTHER)
 }
 
-fn push_body(
+/// Writes the body of a reply that shows this version at the end. At `Err` memory has run out.
+pub(crate) fn push_body(
     body: &mut Vec<u8>,
     airport: &AirportParts,
     version: u32,

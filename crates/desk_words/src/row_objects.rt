@@ -57,9 +57,9 @@ impl Json<Placed<'_>> for PartRow {
     }
 }
 
-// The airport of parts that are on none.
+/// The airport of parts that are on none.
 #[derive(Drop)]
-struct Waiting<'a>(&'a AirportParts);
+pub(crate) struct Waiting<'a>(pub(crate) &'a AirportParts);
 
 impl Json<Waiting<'_>> for PartRow {
     ghost json = { λ at row. waiting_data at.0.now row };

@@ -11,7 +11,7 @@ use Rattle.apron_base.specs.declared.outside.Acted.TheVariants.{Reply as Replied
 use Rattle.apron_rules.specs.declared.parts.AirportParts.{AirportParts}
 use Rattle.desk_asks.specs.declared.asks.Ask.{Ask}
 use Rattle.desk_asks.specs.declared.asks.Entry.{Entry}
-use Rattle.history_core.specs.Answer.{ActsLegally, Given, GivesAnswer, acted_from, keeper_fault, no_memory, replied}
+use Rattle.history_core.specs.Answer.{ActsLegally, Given, GivesAnswer, acted_from, keeper_fault, no_memory, replied, tried}
 use Rattle.history_core.specs.History.{IsLegal, call_of}
 use Rattle.turn_board.specs.Board.{GotTurn, SeatState, Sits, TurnBoardState}
 use Rattle.turn_board.specs.declared.view.Call.{Call}
@@ -28,6 +28,7 @@ every_map P (call ∷ calls) h = (h.0, every_map P calls h.1)
 
 unkept : (given : Given) (airport : AirportParts) → is_fault (acted_from airport given) ≡ true → is_unkept given ≡ true
 unkept (replied reply) airport failed = absurd cc
+unkept (tried trial) airport failed = absurd cc
 unkept no_memory airport failed = absurd cc
 unkept keeper_fault airport failed = refl
 

@@ -9,7 +9,7 @@ use Rattle.apron_base.specs.Machine.{is_fault}
 use Rattle.apron_base.specs.declared.outside.Acted.{Acted}
 use Rattle.apron_rules.specs.declared.parts.AirportParts.{AirportParts}
 use Rattle.desk_asks.specs.declared.asks.Entry.{Entry}
-use Rattle.history_core.specs.Answer.{Given, acted_from, keeper_fault, no_memory, replied}
+use Rattle.history_core.specs.Answer.{Given, acted_from, keeper_fault, no_memory, replied, tried}
 use Rattle.turn_board.specs.Totals.{rise_of}
 use Rattle.turn_board.specs.declared.view.Call.{Call}
 use Rattle.desk_http.specs.Ports.{CountsGiven}
@@ -52,6 +52,7 @@ counts_call given airport answer call before shows counts = by given shows
     by : (given : Given) → is_fault answer ≡ is_fault (acted_from airport given)
         → CountsGiven given before (before + faults_of call) × TellsFaults given before (before + faults_of call)
     by (replied reply) is = (omega arith, stays is)
+    by (tried trial) is = (omega arith, stays is)
     by no_memory is = (omega arith, stays is)
     by keeper_fault is = let some = rises is in ((omega (arith, some), omega (arith, some)), omega (arith, some))
 

@@ -11,7 +11,7 @@ use Rattle.desk_asks.specs.declared.asks.Ask.{Ask}
 use Rattle.desk_asks.specs.declared.asks.Entry.{Entry}
 use Rattle.desk_words.specs.declared.replies.ReplyBody.{ReplyBody}
 use Rattle.desk_words.specs.declared.replies.ReplyBody.TheVariants.{Ahead, Version as ToldVersion}
-use Rattle.history_core.specs.Answer.{ActsLegally, Given, GivesAt, Sought, acted_from, keeper_fault, no_memory, replied, told}
+use Rattle.history_core.specs.Answer.{ActsLegally, Given, GivesAt, Sought, acted_from, keeper_fault, no_memory, replied, told, tried}
 use Rattle.history_core.specs.AtRisk.{IsAskedFor}
 use Rattle.history_core.specs.History.{IsLegal, call_limit, call_of, replay}
 use Rattle.desk_http.specs.Alone.{AloneAsks, port_over}
@@ -28,6 +28,7 @@ use Rattle.desk_workers.proofs.Plain.{risks_wider}
 told_keeps : (airport : AirportParts) (history : List Entry) (call : ℕ) (what : ReplyBody) (given : Given) (after : List Entry)
     → GivesAt (replay airport history) history call (told what) given after → (after ≡ history) × (is_fault (acted_from airport given) ≡ false)
 told_keeps airport history call what (replied reply) after gives = (gives.1, refl)
+told_keeps airport history call what (tried trial) after gives = absurd gives.0
 told_keeps airport history call what no_memory after gives = (gives, refl)
 told_keeps airport history call what keeper_fault after gives = absurd gives.0
 

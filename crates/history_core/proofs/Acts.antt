@@ -3,20 +3,24 @@ use Rattle.std.proofs.Common.{◌≡◌, ◌∙◌, ◌≤◌, ◌+◌, ◌∷�
 use Rattle.std.specs.Result.{result_ok}
 use Rattle.apron_base.specs.Counts.{Counts}
 use Rattle.apron_base.specs.Keeper.{AddsEntry, FailsToAdd, KeeperState}
-use Rattle.apron_base.specs.declared.outside.Acted.TheVariants.{Reply as Replied, Fault}
+use Rattle.apron_base.specs.declared.outside.Acted.TheVariants.{Reply as Replied, Memory as NoMemory, Fault}
 use Rattle.apron_rules.specs.declared.parts.AirportParts.{AirportParts}
+use Rattle.desk_asks.specs.declared.asks.Command.{Command}
 use Rattle.desk_asks.specs.declared.asks.Entry.{Entry}
 use Rattle.desk_asks.specs.declared.asks.What.{What}
 use Rattle.desk_asks.specs.declared.asks.What.TheVariants.{Change}
 use Rattle.desk_words.specs.declared.replies.Reply.{Reply}
 use Rattle.desk_words.specs.Replies.{reply_text}
+use Rattle.desk_words.specs.Trials.{trial_text}
+use Rattle.desk_words.specs.declared.trials.Trial.{Trial}
 use Rattle.entry_bytes.specs.Entries.{SpellsEntry}
 use Rattle.entry_bytes.proofs.EntriesSpelt.{entry_is_read}
 use Rattle.history_core.specs.Acceptance.{TakenAs, accepted, stepped_reply}
-use Rattle.history_core.specs.Answer.{Replies, Sought, changes, keeper_fault, replied}
+use Rattle.history_core.specs.Answer.{Replies, Sought, changes, keeper_fault, no_memory, replied, tried, tries}
 use Rattle.history_core.specs.AtRisk.{entry_read}
 use Rattle.history_core.specs.Board.{ActsOnBoard, BoardHeld}
 use Rattle.history_core.specs.History.{replay}
+use Rattle.history_core.specs.Trying.{IsTrial}
 
 module _ {K : Type 0} (tells : K → KeeperState) where
   -- an act that shows a reply, and leaves the board as it is
@@ -25,6 +29,28 @@ module _ {K : Type 0} (tells : K → KeeperState) where
       → ActsOnBoard tells board board call what asked (Replied bytes)
   replied_acts board call what asked reply bytes up replies text = record {
     acts = (replied reply, ap Replied text, replies);
+    airport = refl;
+    faults = refl;
+    at_risk = inr (inl (refl, refl));
+    next = omega arith;
+  }
+
+  -- an act that shows a trial, and leaves the board as it is
+  pub tried_acts : (board : BoardHeld K) (call : ℕ) (what : What) (command : Command) (trial : Trial) (bytes : List ℕ) → board.next ≤ call
+      → IsTrial (replay board.airport board.history) (length board.history) command trial → bytes ≡ trial_text board.airport trial
+      → ActsOnBoard tells board board call what (tries command) (Replied bytes)
+  tried_acts board call what command trial bytes up is text = record {
+    acts = (tried trial, ap Replied text, (is, refl));
+    airport = refl;
+    faults = refl;
+    at_risk = inr (inl (refl, refl));
+    next = omega arith;
+  }
+
+  -- one for which there is no memory
+  pub memory_acts : (board : BoardHeld K) (call : ℕ) (what : What) (asked : Sought) → board.next ≤ call → ActsOnBoard tells board board call what asked NoMemory
+  memory_acts board call what asked up = record {
+    acts = (no_memory, refl, refl);
     airport = refl;
     faults = refl;
     at_risk = inr (inl (refl, refl));

@@ -10,6 +10,7 @@ pub mod Added
 pub mod NewVisits
 pub mod Bumps
 pub mod Takings
+pub mod Tried
 pub mod Keepers
 pub mod Acts
 pub mod Boards

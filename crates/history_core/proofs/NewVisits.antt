@@ -9,22 +9,7 @@ use Rattle.apron_base.specs.declared.numbers.TypeNo.{TypeNo}
 use Rattle.mvt_grammar.specs.declared.message.Flight.{Flight}
 use Rattle.visit_book.specs.declared.visits.Key.{Key}
 use Rattle.visit_book.specs.declared.visits.NewVisit.{NewVisit}
-
--- two tests decide two facts
-both_decide : {P Q : Type 0} (s t : Bool) → Decides s P → Decides t Q → Decides (s && t) (P × Q)
-both_decide true t first second = (λ is. (first.0 refl, second.0 is), λ both. second.1 both.1)
-both_decide false t first second = (λ is. absurd (cc), λ both. first.1 both.0)
-
--- a test decides each fact that is equivalent to its own
-decides_too : {P Q : Type 0} (s : Bool) → Decides s P → (P → Q) → (Q → P) → Decides s Q
-decides_too s decides forth back = (λ is. forth (decides.0 is), λ fact. decides.1 (back fact))
-
-option_decides : {A : Type 0} (test : A → A → Bool) → ((one other : A) → Decides (test one other) (one ≡ other))
-    → (one other : Option A) → Decides (option_eq test one other) (one ≡ other)
-option_decides test decides None None = (λ is. refl, λ same. refl)
-option_decides test decides None (Some other) = (λ is. absurd (cc), λ same. absurd (cc))
-option_decides test decides (Some one) None = (λ is. absurd (cc), λ same. absurd (cc))
-option_decides test decides (Some one) (Some other) = (λ is. ap Some ((decides one other).0 is), λ same. (decides one other).1 (cc))
+use Rattle.plan_lists.proofs.SameVisits.{both_decide, decides_too, option_decides}
 
 -- the flights are the same
 abbrev is_same_flight : Flight → Flight → Bool

@@ -10,7 +10,7 @@ use Rattle.desk_asks.specs.declared.asks.Command.{Command}
 use Rattle.desk_asks.specs.declared.asks.Entry.{Entry}
 use Rattle.desk_words.specs.declared.replies.Reply.{Reply}
 use Rattle.desk_words.specs.Replies.{IsTellable}
-use Rattle.history_core.specs.Answer.{Given, GivesAt, Replies, Sought, added_entries, changes, keeper_fault, no_memory, replied, told, visit_told}
+use Rattle.history_core.specs.Answer.{Given, GivesAt, Replies, Sought, added_entries, changes, keeper_fault, no_memory, replied, told, tried, tries, visit_told}
 use Rattle.history_core.specs.History.{IsLegal, replay}
 use Rattle.history_core.specs.Acceptance.{Stepped, accepted, ahead, full, refused, repeated}
 use Rattle.history_core.specs.Taking.{IsAnswered}
@@ -53,5 +53,7 @@ pub found_legal : (airport : AirportParts) (plan : PlanState) (before : List Ent
 found_legal airport plan before call (told news) (replied reply) after (is, same) legal = subst (IsLegal airport) same legal
 found_legal airport plan before call (changes command) (replied reply) after (stepped, steps, is, grown) legal =
     front_legal airport before (added_entries call command stepped) (subst (IsLegal airport) grown legal)
+found_legal airport plan before call (tries command) (replied reply) after is legal = absurd is
+found_legal airport plan before call asked (tried trial) after (is, same) legal = subst (IsLegal airport) same legal
 found_legal airport plan before call asked no_memory after same legal = subst (IsLegal airport) same legal
 found_legal airport plan before call asked keeper_fault after (accepts, same) legal = subst (IsLegal airport) same legal

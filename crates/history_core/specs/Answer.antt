@@ -10,30 +10,35 @@ use Rattle.desk_asks.specs.Commands.{desk_of, kind_of}
 use Rattle.desk_asks.specs.declared.asks.Command.{Command}
 use Rattle.desk_asks.specs.declared.asks.Entry.{Entry}
 use Rattle.desk_asks.specs.declared.asks.What.{What}
-use Rattle.desk_asks.specs.declared.asks.What.TheVariants.{Change, Version as AskVersion, Visit as AskVisit, Plan as AskPlan, Unplaced as AskUnplaced, Chart as AskChart, Entry as AskEntry, Airport as AskAirport, Day as AskDay}
+use Rattle.desk_asks.specs.declared.asks.What.TheVariants.{Change, Version as AskVersion, Visit as AskVisit, Plan as AskPlan, Unplaced as AskUnplaced, Chart as AskChart, Entry as AskEntry, Airport as AskAirport, Day as AskDay, Try}
 use Rattle.desk_asks.specs.declared.asks.Ask.{Ask}
 use Rattle.desk_words.specs.declared.replies.Reply.{Reply}
 use Rattle.desk_words.specs.declared.replies.ReplyBody.{ReplyBody}
 use Rattle.desk_words.specs.declared.replies.ReplyBody.TheVariants.{Version as ToldVersion, Visit as ToldVisit, Plan as ToldPlan, Unplaced as ToldUnplaced, Chart as ToldChart, Entry as ToldEntry, Airport as ToldAirport, Day as ToldDay, NoVisit, NoEntry, Ahead}
 use Rattle.desk_words.specs.Fixed.{no_memory_text, keeper_fault_text}
 use Rattle.desk_words.specs.Replies.{reply_text}
+use Rattle.desk_words.specs.Trials.{trial_text}
+use Rattle.desk_words.specs.declared.trials.Trial.{Trial}
 use Rattle.plan_lists.specs.Held.{held_on}
 use Rattle.plan_lists.specs.OfDay.{visits_on}
 use Rattle.plan_lists.specs.Unplaced.{unplaced_parts}
 use Rattle.wall_chart.specs.Chart.{chart_text}
 use Rattle.history_core.specs.Acceptance.{Stepped, TakenAs, accepted, reply_at, stepped_reply}
 use Rattle.history_core.specs.History.{IsLegal, entry_at, replay}
+use Rattle.history_core.specs.Trying.{IsTrial}
 
--- what an ask comes to at a plan: a command that may change it, or what a reply says of the plan as
--- it is
+-- what an ask comes to at a plan: a command that may change it, what a reply says of the plan as it
+-- is, or what a command would come to that is not taken
 pub data Sought : Type 0 where
   changes : Command → Sought
   told : ReplyBody → Sought
+  tries : Command → Sought
 
--- a reply is sought that says something of the plan as it is
+-- a reply is sought to a question: the plan stays as it is
 abbrev pub IsTold : Sought → Type 0
 IsTold (told what) = Unit {0}
 IsTold (changes command) = ⊥
+IsTold (tries command) = Unit {0}
 
 -- the visit, or that there is none
 abbrev pub visit_told : Option Visit → ReplyBody
@@ -58,6 +63,7 @@ sought_of plan history (AskChart day) = told (ToldChart (chart_text plan.airport
 sought_of plan history (AskEntry number) = told (entry_told number (entry_at history number))
 sought_of plan history AskAirport = told ToldAirport
 sought_of plan history (AskDay day) = told (ToldDay (visits_on plan day))
+sought_of plan history (Try command) = tries command
 
 -- what an ask comes to: one that has seen a version later than the plan's is ahead, whatever it
 -- asks
@@ -80,22 +86,30 @@ Replies plan before call (changes command) reply after =
     × TakenAs plan (length before) command stepped
     × (reply ≡ stepped_reply plan command stepped)
     × (after ≡ before ++ added_entries call command stepped)
+Replies plan before call (tries command) reply after = ⊥
+
+-- the trial of a command that is tried, at a plan whose history has this many entries
+abbrev pub Tries : PlanState → ℕ → Sought → Trial → Type 0
+Tries plan entries (tries command) trial = IsTrial plan entries command trial
+Tries plan entries asked trial = ⊥
 
 -- a command is sought that the plan accepts, if its history has this many entries
 abbrev pub IsAccepted : PlanState → ℕ → Sought → Type 0
 IsAccepted plan entries (changes command) = TakenAs plan entries command accepted
 IsAccepted plan entries _ = ⊥
 
--- what an ask is given: the plan's reply, or one of two answers outside the history: that there is
--- no memory, or that the append of an accepted command failed
+-- what an ask is given: the plan's reply, the trial of a command, or one of two answers outside the
+-- history: that there is no memory, or that the append of an accepted command failed
 pub data Given : Type 0 where
   replied : Reply → Given
+  tried : Trial → Given
   no_memory : Given
   keeper_fault : Given
 
 -- the bytes of what is given
 abbrev pub given_text : AirportParts → Given → List ℕ
 given_text airport (replied reply) = reply_text airport reply
+given_text airport (tried trial) = trial_text airport trial
 given_text airport no_memory = no_memory_text
 given_text airport keeper_fault = keeper_fault_text
 
@@ -103,6 +117,8 @@ given_text airport keeper_fault = keeper_fault_text
 -- after it
 abbrev pub GivesAt : PlanState → List Entry → ℕ → Sought → Given → List Entry → Type 0
 GivesAt plan before call asked (replied reply) after = Replies plan before call asked reply after
+GivesAt plan before call asked (tried trial) after = Tries plan (length before) asked trial
+    × (after ≡ before)
 GivesAt plan before call asked no_memory after = after ≡ before
 GivesAt plan before call asked keeper_fault after = IsAccepted plan (length before) asked
     × (after ≡ before)
@@ -116,6 +132,7 @@ GivesAnswer airport before call ask given after =
 -- how an act shows what is given
 abbrev pub acted_from : AirportParts → Given → Acted
 acted_from airport (replied reply) = Replied (reply_text airport reply)
+acted_from airport (tried trial) = Replied (trial_text airport trial)
 acted_from airport no_memory = NoMemory
 acted_from airport keeper_fault = Fault
 

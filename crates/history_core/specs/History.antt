@@ -8,7 +8,7 @@ use Rattle.plan_core.specs.PlanState.{PlanState, empty_plan}
 use Rattle.desk_asks.specs.Commands.{IsCommandOf}
 use Rattle.desk_asks.specs.declared.asks.Entry.{Entry}
 use Rattle.desk_asks.specs.declared.asks.What.{What}
-use Rattle.desk_asks.specs.declared.asks.What.TheVariants.{Change, Plan as AskPlan, Chart as AskChart, Day as AskDay}
+use Rattle.desk_asks.specs.declared.asks.What.TheVariants.{Change, Plan as AskPlan, Chart as AskChart, Day as AskDay, Try}
 use Rattle.desk_asks.specs.declared.asks.Ask.{Ask}
 use Rattle.history_core.specs.Acceptance.{TakenAs, accepted, after_command}
 
@@ -21,13 +21,14 @@ abbrev pub entry_at : List Entry → ℕ → Option Entry
 entry_at history zero = None
 entry_at history (suc place) = slice_get history place
 
--- what is asked is of the airport: a command that is; a question, if the plan has the day that it
--- asks about
+-- what is asked is of the airport: a command that is, taken or tried; a question, if the plan has
+-- the day that it asks about
 abbrev pub IsWhatOf : AirportParts → What → Type 0
 IsWhatOf airport (Change command) = IsCommandOf airport command
 IsWhatOf airport (AskPlan day) = (1 ≤ day) × (day ≤ airport.days)
 IsWhatOf airport (AskChart day) = (1 ≤ day) × (day ≤ airport.days)
 IsWhatOf airport (AskDay day) = (1 ≤ day) × (day ≤ airport.days)
+IsWhatOf airport (Try command) = IsCommandOf airport command
 IsWhatOf airport _ = Unit {0}
 
 -- the ask is of the airport

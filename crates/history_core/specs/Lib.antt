@@ -1,4 +1,5 @@
 pub mod Acceptance
+pub mod Trying
 pub mod History
 pub mod Answer
 pub mod Taking

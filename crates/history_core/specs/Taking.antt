@@ -27,3 +27,8 @@ ComesTo plan entries command (Accepted change reply) =
     × IsChangeOf plan command change
     × (reply ≡ stepped_reply plan command accepted)
 ComesTo plan entries command (Answered reply) = IsAnswered plan entries command reply
+
+-- the reply of what a command comes to
+abbrev pub reply_in : Taken → Reply
+reply_in (Accepted change reply) = reply
+reply_in (Answered reply) = reply

@@ -9,7 +9,7 @@ ghost use Rattle.entry_bytes.specs.Laws.{most_bytes};
 ghost use Rattle.history_core.specs.Acceptance.{TakenAs, accepted, stepped_reply};
 ghost use Rattle.history_core.specs.History.{IsAskOf, IsLegal, call_limit, call_of, replay};
 ghost use Rattle.history_core.specs.Bumped.{last_bumped};
-ghost use Rattle.history_core.specs.Answer.{IsTold, Replies, Sought, ask_outcome, changes, told, visit_told};
+ghost use Rattle.history_core.specs.Answer.{IsTold, Replies, Sought, ask_outcome, changes, told, tries, visit_told};
 ghost use Rattle.history_core.specs.Board.{ActsOnBoard, AsksBoard, IsKeeperOf, entry_texts};
 ghost use Rattle.history_core.specs.Opening.{CannotOpen, OpensBoard};
 ghost use Rattle.history_core.specs.Taking.{IsChangeOf};
@@ -19,10 +19,12 @@ use crate::opening::{OpenFault, Opening, opening_of};
 use crate::questions::{chart_told, day_told, entry_told, plan_told, unplaced_told};
 use crate::room::make_room;
 use crate::taking::{Taken, take_command};
+use crate::trying::trial_of;
 use apron_base::{Acted, Keeper, Listed, Memory, PartId, VisitNo};
 use apron_rules::Airport;
 use desk_asks::{Ask, Command, Entry, What};
 use desk_words::replies::{Reply, ReplyBody, reply_bytes};
+use desk_words::trials::trial_bytes;
 use entry_bytes::encode_entry;
 use plan_core::{Change, Plan};
 use std::alloc::Global;
@@ -183,6 +185,7 @@ impl<'a, K: Keeper> Board<'a, K> {
             What::Entry(number) => Ok(entry_told(self.history.as_slice(), *number)),
             What::Airport => Ok(ReplyBody::Airport),
             What::Day(day) => day_told(alloc, self.airport, &self.plan, *day),
+            What::Try(command) => return self.try_command(alloc, command),
         };
         self.reply_with(alloc, news)
     }
@@ -228,6 +231,22 @@ impl<'a, K: Keeper> Board<'a, K> {
         match take_command(alloc, self.airport, &self.plan, entries, command) {
             Ok(Taken::Accepted(change, reply)) => self.accept(alloc, call, command, change, reply),
             Ok(Taken::Answered(reply)) => self.reply(alloc, &reply),
+            Err(Memory) => Acted::Memory,
+        }
+    }
+
+    // What the command would come to. The plan stays as it is.
+    fn try_command(&self, alloc: Global, command: &Command) -> Acted
+        requires valid { IsCommandOf self.now.airport command.now }
+        ensures acts { (call : ℕ) (what : What) → self.now.next ≤ call
+            → ActsOnBoard K.state self.now self.now call what (tries command.now) result }
+    {
+        let entries = self.history.as_slice().len();
+        let Ok(trial) = trial_of(alloc, self.airport, &self.plan, entries, command) else {
+            return Acted::Memory;
+        };
+        match trial_bytes(alloc, self.airport, &trial) {
+            Ok(bytes) => Acted::Reply(bytes),
             Err(Memory) => Acted::Memory,
         }
     }

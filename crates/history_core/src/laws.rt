@@ -9,9 +9,13 @@ ghost use Rattle.plan_core.specs.Drafts.{draft_version};
 ghost use Rattle.plan_core.specs.PlanState.{HasBump, PlanState};
 ghost use Rattle.desk_asks.specs.declared.asks.Command.{Command};
 ghost use Rattle.desk_asks.specs.declared.asks.Entry.{Entry};
+ghost use Rattle.desk_words.specs.declared.replies.Reply.{Reply};
+ghost use Rattle.desk_words.specs.declared.trials.Trial.{Trial};
 ghost use Rattle.history_core.specs.Acceptance.{Stepped, TakenAs};
+ghost use Rattle.history_core.specs.Answer.{Replies, changes};
 ghost use Rattle.history_core.specs.History.{IsLegal, IsSoundPlan, replay};
 ghost use Rattle.history_core.specs.Laws.{HasAdded, HasCommit, HasEntry, HasVisit, last_edit, without_desks};
+ghost use Rattle.history_core.specs.Trying.{IsTrial};
 
 /// Apart from a lack of memory, each command has exactly one step at a plan.
 pub fn commands_have_one_step()
@@ -22,6 +26,16 @@ pub fn commands_have_one_step()
         → TakenAs plan entries command stepped
         → TakenAs plan entries command other
         → stepped ≡ other }
+{}
+
+/// A command gets the reply that its trial at the same plan and history told.
+pub fn trials_tell_replies()
+    ensures same { (plan : PlanState) (before after : List Entry) (call : ℕ) (command : Command)
+        (trial : Trial) (reply : Reply)
+        → IsNumbered plan.visits
+        → IsTrial plan (length before) command trial
+        → Replies plan before call (changes command) reply after
+        → reply ≡ trial.reply }
 {}
 
 /// The plan of a legal history is sound.

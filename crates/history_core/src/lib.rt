@@ -10,11 +10,13 @@ mod opening;
 mod questions;
 mod room;
 mod taking;
+mod trying;
 
 pub use board::Board;
 pub use laws::{
     bumps_are_of_entries, commands_have_one_step, desks_of_messages_and_reports_change_no_plan,
     drafts_are_of_entries, edits_are_of_the_last_entry, entries_of_legal_histories_make_versions,
-    fronts_of_legal_histories_are_legal, legal_histories_make_sound_plans, visits_are_of_entries,
+    fronts_of_legal_histories_are_legal, legal_histories_make_sound_plans, trials_tell_replies,
+    visits_are_of_entries,
 };
 pub use opening::{OpenFault, Opening};

@@ -20,7 +20,7 @@ use Rattle.visit_book.specs.Places.{is_actual}
 use Rattle.apron_base.specs.ResultChain.{◌>>=◌, refuse_if}
 use Rattle.plan_core.specs.Edits.{after_all_edits, after_edit, after_edits, edit_part, edit_visit, part_at_place, refuse_unfit, with_part}
 use Rattle.plan_core.specs.PlanState.{PlanState}
-use Rattle.plan_core.specs.Rebase.{RefusesDraft}
+use Rattle.plan_core.specs.Rebase.{RefusesDraft, RefusesEdits}
 
 -- the fault is one of an edit
 abbrev pub IsOfEdit : EditFault → Type 0
@@ -109,3 +109,9 @@ refuses_edits plan draft fault e = refuses_by plan draft fault (fault_is_of_edit
 
 pub not_memory : (fault : EditFault) → IsOfEdit fault → fault ≢ Memory
 not_memory fault h is = subst IsOfEdit is h
+
+-- and so the edits are refused
+pub edits_refused : (plan : PlanState) (draft : Draft) (fault : EditFault) → after_all_edits plan.airport draft.base draft.edits plan.visits ≡ Err fault
+    → RefusesEdits plan draft fault
+edits_refused plan draft Memory is = tt
+edits_refused plan draft fault is = is

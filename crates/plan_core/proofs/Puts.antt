@@ -36,10 +36,10 @@ first_number count visits v changed h =
     (h.rise.0, omega (arith, h.size, rest))
 
 -- the visit in the place of a number is the visit of that number
-in_place : (visits : List Visit) (number : VisitNo) → IsNumbered visits → 1 ≤ number.0 → visit_at visits number ≡ slice_get visits (number.0 - 1)
+pub in_place : (visits : List Visit) (number : VisitNo) → IsNumbered visits → 1 ≤ number.0 → visit_at visits number ≡ slice_get visits (number.0 - 1)
 in_place visits number h some = visit_at-place 0 visits number h (omega arith)
 
-some_within : (visits : List Visit) (i : ℕ) → i < length visits → (v : Visit) × (slice_get visits i ≡ Some v)
+pub some_within : (visits : List Visit) (i : ℕ) → i < length visits → (v : Visit) × (slice_get visits i ≡ Some v)
 some_within [] i within = absurd (omega arith)
 some_within (v ∷ visits) zero within = (v, refl)
 some_within (v ∷ visits) (suc i) within = some_within visits i (omega arith)
@@ -75,7 +75,7 @@ same_first : (number : VisitNo) (x y : Visit) (rest : Option Visit) → has_numb
 same_first number x y rest a b = rw (a, b) refl
 
 -- a visit of another number is found as before after one is replaced
-other_found : (number : VisitNo) (visits : List Visit) (i : ℕ) (old new : Visit) → slice_get visits i ≡ Some old
+pub other_found : (number : VisitNo) (visits : List Visit) (i : ℕ) (old new : Visit) → slice_get visits i ≡ Some old
     → has_number number old ≡ false → has_number number new ≡ false → visit_at (slice_set visits i new) number ≡ visit_at visits number
 other_found number [] i old new at a b = refl
 other_found number (x ∷ visits) zero old new at a b =
@@ -154,7 +154,7 @@ pub put_one_numbered : (visits : List Visit) (v : Visit) → IsThereOrNext (leng
 put_one_numbered visits v here h =
     by_case IsNumbered visits v here (λ within. set_numbered 0 (v.number.0 - 1) visits v h (omega (arith, here.0))) (λ past. last_numbered 0 visits v h (omega arith))
 
-put_one_size : (visits : List Visit) (v : Visit) → IsThereOrNext (length visits) v → length visits ≤ length (put_one visits v)
+pub put_one_size : (visits : List Visit) (v : Visit) → IsThereOrNext (length visits) v → length visits ≤ length (put_one visits v)
 put_one_size visits v here =
     by_case (λ after. length visits ≤ length after) visits v here (λ within. omega (arith, length-set visits (v.number.0 - 1) v)) (λ past. omega (arith, length-append visits (v ∷ [])))
 

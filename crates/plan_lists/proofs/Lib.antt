@@ -3,3 +3,5 @@ pub mod Passed
 pub mod Ranks
 pub mod OnStands
 pub mod OfDay
+pub mod SameVisits
+pub mod Differences

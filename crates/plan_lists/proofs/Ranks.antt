@@ -9,13 +9,15 @@ use Rattle.std.specs.declared.cmp.Ordering.{Ordering}
 use Rattle.std.specs.declared.cmp.Ordering.TheVariants.{Equal, Greater, Less}
 use Rattle.std.proofs.lemmas.Bool.Decides.{nat_tests}
 use Rattle.std.proofs.lemmas.List.Sums.{sum_by-append, sum_by-cons, sum_by-le-sum_by}
+use Rattle.apron_base.specs.Histories.{Rises}
 use Rattle.apron_base.specs.declared.numbers.PartId.{PartId}
 use Rattle.apron_base.proofs.Sorting.{IsOnce, NeverFalls, falls_nowhere, one_order, sorted_from}
 use Rattle.visit_book.specs.declared.visits.Part.{Part}
 use Rattle.visit_book.specs.declared.visits.Visit.{Visit}
 use Rattle.visit_book.specs.Ends.{is_live}
-use Rattle.visit_book.specs.Numbers.{IsNumbered, IsNumberedAbove}
+use Rattle.visit_book.specs.Numbers.{IsNumberedAbove}
 use Rattle.clash_check.proofs.Ordered.{is_part}
+use Rattle.plan_core.specs.PlanState.{visit_number}
 use Rattle.bump_core.specs.Ranks.{is_lower, part_rank}
 use Rattle.bump_core.proofs.Order.{lower_apart, lower_trans}
 use Rattle.bump_core.proofs.Settled.{lower_total}
@@ -128,19 +130,19 @@ no_more_if : (f : Waiting → ℕ) (live : Bool) (parts : List Waiting) (n : ℕ
 no_more_if f true parts n h = h
 no_more_if f false parts n h = omega arith
 
-none_above : (id : PartId) (low : ℕ) (visits : List Visit) → IsNumberedAbove low visits → id.visit.0 ≤ low → sum_by (one_if id) (flat_map waiting_of visits) ≤ 0
-none_above id low [] h below = omega arith
-none_above id low (visit ∷ visits) h below =
+none_above : (id : PartId) (low high : ℕ) (visits : List Visit) → Rises visit_number low high visits → id.visit.0 < low → sum_by (one_if id) (flat_map waiting_of visits) ≤ 0
+none_above id low high [] h below = omega arith
+none_above id low high (visit ∷ visits) h below =
     omega (
       arith,
       sum_by-append (one_if id) (waiting_of visit) (flat_map waiting_of visits),
       no_more_if (one_if id) (is_live visit) (waits visit (rows_from visit 1 visit.parts)) 0 (none_of id visit 1 visit.parts (λ e. omega (arith, h.0, e))),
-      none_above id (low + 1) visits h.1 (omega arith),
+      none_above id (visit.number.0 + 1) high visits h.1 (omega (arith, h.0)),
     )
 
-once_above : (id : PartId) (low : ℕ) (visits : List Visit) → IsNumberedAbove low visits → sum_by (one_if id) (flat_map waiting_of visits) ≤ 1
-once_above id low [] h = omega arith
-once_above id low (visit ∷ visits) h = by_test (visit.number.0 == id.visit.0) refl (once_above id (low + 1) visits h.1)
+once_above : (id : PartId) (low high : ℕ) (visits : List Visit) → Rises visit_number low high visits → sum_by (one_if id) (flat_map waiting_of visits) ≤ 1
+once_above id low high [] h = omega arith
+once_above id low high (visit ∷ visits) h = by_test (visit.number.0 == id.visit.0) refl (once_above id (visit.number.0 + 1) high visits h.1)
   where
     both : sum_by (one_if id) (waiting_of visit ++ flat_map waiting_of visits) ≡ sum_by (one_if id) (waiting_of visit) + sum_by (one_if id) (flat_map waiting_of visits)
     both = sum_by-append (one_if id) (waiting_of visit) (flat_map waiting_of visits)
@@ -152,7 +154,7 @@ once_above id low (visit ∷ visits) h = by_test (visit.number.0 == id.visit.0) 
           arith,
           both,
           no_more_if (one_if id) (is_live visit) (waits visit (rows_from visit 1 visit.parts)) 1 (once_from id visit 1 visit.parts),
-          none_above id (low + 1) visits h.1 (omega (arith, h.0, same)),
+          none_above id (visit.number.0 + 1) high visits h.1 (omega (arith, same)),
         )
     by_test false e rest =
         omega (
@@ -189,11 +191,11 @@ cond_le true true h = omega arith
 cond_le true false h = absurd (cc (h refl))
 
 -- no two parts of visits in order tie
-once : (visits : List Visit) → IsNumbered visits → IsOnce ranks_before (flat_map waiting_of visits)
-once visits h part =
+once : (high : ℕ) (visits : List Visit) → Rises visit_number 1 high visits → IsOnce ranks_before (flat_map waiting_of visits)
+once high visits h part =
     omega (
       arith,
-      once_above part.row.id 0 visits h,
+      once_above part.row.id 1 high visits h,
       sum_by-le-sum_by (λ (x : Waiting). cond (ties ranks_before part x) 1 0) (one_if part.row.id) (flat_map waiting_of visits)
           (λ x. cond_le (ties ranks_before part x) (is_id part.row.id x) (tie_is_part part x)),
     )
@@ -237,7 +239,15 @@ sorted_falls sorted up = falls_nowhere ranks_before order sorted (λ k d inside.
     ∙ subst (λ (n : ℕ). is_lt (compare_keys (key_of (get_or sorted n d)) (key_of (get_or sorted k d))) ≡ false) next later)
 
 -- the parts of visits that wait, once they are sorted
-pub sorted_waiting : (visits : List Visit) (found sorted : List Waiting) → IsNumbered visits → found ≡ flat_map waiting_of visits → IsPermutation found sorted
+pub sorted_waiting : (high : ℕ) (visits : List Visit) (found sorted : List Waiting) → Rises visit_number 1 high visits → found ≡ flat_map waiting_of visits → IsPermutation found sorted
     → NeverFalls ranks_before sorted → sorted ≡ by_rank (flat_map waiting_of visits)
-sorted_waiting visits found sorted numbered are moved falls =
-    one_order ranks_before order (flat_map waiting_of visits) sorted (once visits numbered) (subst (λ (parts : List Waiting). IsPermutation parts sorted) are moved) falls
+sorted_waiting high visits found sorted rise are moved falls =
+    one_order ranks_before order (flat_map waiting_of visits) sorted (once high visits rise) (subst (λ (parts : List Waiting). IsPermutation parts sorted) are moved) falls
+
+-- visits numbered in order have numbers that rise
+pub numbered_rise : (n : ℕ) (visits : List Visit) → IsNumberedAbove n visits → (high : ℕ) × Rises visit_number (n + 1) high visits
+numbered_rise n [] h = (n + 1, omega arith)
+numbered_rise n (visit ∷ visits) h =
+    let rest = numbered_rise (n + 1) visits h.1 in
+    let next : n + 1 + 1 ≡ visit.number.0 + 1 = omega (arith, h.0) in
+    (rest.0, (omega (arith, h.0), subst (λ (m : ℕ). Rises visit_number m rest.0 visits) next rest.1))

@@ -6,6 +6,7 @@ use Rattle.visit_book.specs.declared.visits.Visit.{Visit}
 use Rattle.visit_book.specs.Ends.{is_live}
 use Rattle.visit_book.specs.Places.{stand_of}
 use Rattle.plan_core.specs.PlanState.{PlanState}
+use Rattle.bump_core.specs.Bumped.{is_bumped_by}
 use Rattle.bump_core.specs.Ranks.{is_lower, part_rank}
 use Rattle.visit_book.specs.declared.visits.PartRow.{PartRow}
 use Rattle.plan_lists.specs.Rows.{rows_of}
@@ -36,6 +37,19 @@ ranks_before part other = is_lower (rank_of part) (rank_of other)
 abbrev pub by_rank : List Waiting → List Waiting
 by_rank parts = sorted_by ranks_before parts
 
+-- the parts of those of these visits that are live which wait for a stand, by rank
+abbrev pub waiting_parts : List Visit → List PartRow
+waiting_parts visits = map (λ part. part.row) (by_rank (flat_map waiting_of visits))
+
 -- the parts of live visits that wait for a stand, by rank
 abbrev pub unplaced_parts : PlanState → List PartRow
-unplaced_parts plan = map (λ part. part.row) (by_rank (flat_map waiting_of plan.visits))
+unplaced_parts plan = waiting_parts plan.visits
+
+-- the part lost its stand by the entry of this number
+abbrev pub is_displaced_by : ℕ → PartRow → Bool
+is_displaced_by entry row = is_bumped_by entry row.part.place
+
+-- of the parts of these visits that wait for a stand, those that lost it by the entry of this
+-- number, by rank
+abbrev pub displaced_parts : ℕ → List Visit → List PartRow
+displaced_parts entry visits = filter (is_displaced_by entry) (waiting_parts visits)

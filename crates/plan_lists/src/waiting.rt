@@ -1,11 +1,14 @@
 // The parts that wait for a stand.
-ghost use Rattle.std.specs.Prelude.{◌≡◌, ◌++◌, ◌∷◌, [], All, IfOk, None, OnOk, map, if◌then◌else◌};
+ghost use Rattle.std.specs.Prelude.{◌≡◌, ◌++◌, ◌∷◌, [], ℕ, All, IfOk, None, OnOk, map, if◌then◌else◌};
 ghost use Rattle.std.specs.List.{flat_map};
+ghost use Rattle.apron_base.specs.Histories.{Rises};
 ghost use Rattle.visit_book.specs.Places.{stand_of};
-ghost use Rattle.plan_lists.specs.Unplaced.{is_unplaced_row, unplaced_parts, waiting_of, with_rank};
+ghost use Rattle.plan_core.specs.PlanState.{visit_number};
+ghost use Rattle.plan_lists.specs.Unplaced.{displaced_parts, is_unplaced_row, unplaced_parts, waiting_of, waiting_parts, with_rank};
 
-use crate::rows::row;
+use crate::rows::{push_if, row};
 use apron_base::{Listed, Memory, Minute};
+use bump_core::is_bumped_by;
 use plan_core::Plan;
 use std::alloc::Global;
 use visit_book::{PartRow, Place, Visit, is_live};
@@ -25,7 +28,33 @@ pub fn unplaced_parts(alloc: Global, plan: &Plan) -> Result<Listed<PartRow>, Mem
     ensures unplaced { IfOk result (λ rows. rows ≡ unplaced_parts plan.now.plan) }
     ensures nowhere { IfOk result (λ rows. All (λ row. stand_of row.part.place ≡ None) rows) }
 {
-    let mut parts = all_waiting(alloc, plan.visits())?;
+    waiting_parts(alloc, plan.visits())
+}
+
+/// Of the parts of these visits that wait for a stand, those that lost it by the entry of this
+/// number, by rank. The only error is a lack of memory.
+pub fn displaced_parts(
+    alloc: Global,
+    entry: u32,
+    visits: &[Visit],
+) -> Result<Listed<PartRow>, Memory>
+    requires rise { (high : ℕ) × Rises visit_number 1 high visits.now }
+    ensures displaced { IfOk result (λ rows. rows ≡ displaced_parts entry visits.now) }
+{
+    let waiting = waiting_parts(alloc, visits)?;
+    let mut displaced = Listed::new(alloc);
+    for row in waiting.as_slice() {
+        push_if(&mut displaced, *row, is_bumped_by(entry, &row.part.place))?;
+    }
+    Ok(displaced)
+}
+
+// The parts of live ones of these visits that wait for a stand, by rank.
+fn waiting_parts(alloc: Global, visits: &[Visit]) -> Result<Listed<PartRow>, Memory>
+    requires rise { (high : ℕ) × Rises visit_number 1 high visits.now }
+    ensures waiting { IfOk result (λ rows. rows ≡ waiting_parts visits.now) }
+{
+    let mut parts = all_waiting(alloc, visits)?;
     parts.sort_unstable_by_key(|part| (part.class, part.on, part.row.id));
     rows_of(alloc, parts.as_slice())
 }

@@ -10,10 +10,10 @@ use Rattle.desk_asks.specs.declared.asks.Ask.{Ask}
 use Rattle.desk_asks.specs.declared.asks.Command.{Command}
 use Rattle.desk_asks.specs.declared.asks.Entry.{Entry}
 use Rattle.desk_asks.specs.declared.asks.What.{What}
-use Rattle.desk_asks.specs.declared.asks.What.TheVariants.{Change, Version as AskVersion, Visit as AskVisit, Plan as AskPlan, Unplaced as AskUnplaced, Chart as AskChart, Entry as AskEntry, Airport as AskAirport, Day as AskDay}
+use Rattle.desk_asks.specs.declared.asks.What.TheVariants.{Change, Version as AskVersion, Visit as AskVisit, Plan as AskPlan, Unplaced as AskUnplaced, Chart as AskChart, Entry as AskEntry, Airport as AskAirport, Day as AskDay, Try}
 use Rattle.desk_words.specs.declared.replies.Reply.{Reply}
 use Rattle.desk_words.specs.declared.replies.ReplyBody.TheVariants.{Ahead}
-use Rattle.history_core.specs.Answer.{ActsAs, Given, GivesAnswer, Replies, Sought, added_entries, ask_outcome, changes, keeper_fault, no_memory, replied, sought_of, told}
+use Rattle.history_core.specs.Answer.{ActsAs, Given, GivesAnswer, Replies, Sought, added_entries, ask_outcome, changes, keeper_fault, no_memory, replied, sought_of, told, tried, tries}
 use Rattle.history_core.specs.History.{call_of, replay}
 use Rattle.history_core.specs.Acceptance.{IsTaken, Stepped, TakenAs, accepted, ahead, full, refused, repeated}
 
@@ -39,6 +39,7 @@ asked_of plan history (AskChart day) command is = absurd (cc)
 asked_of plan history (AskEntry number) command is = absurd (cc)
 asked_of plan history AskAirport command is = absurd (cc)
 asked_of plan history (AskDay day) command is = absurd (cc)
+asked_of plan history (Try other) command is = absurd (cc)
 
 asked_if : (plan : PlanState) (history : List Entry) (what : What) (command : Command) (late : Bool)
     → (if late then told Ahead else sought_of plan history what) ≡ changes command → what ≡ Change command
@@ -59,6 +60,7 @@ module _ (airport : AirportParts) (before : List Entry) (call : ℕ) (ask : Ask)
   after_reply : (asked : Sought) (reply : Reply) → ask_outcome (replay airport before) before ask ≡ asked
       → Replies (replay airport before) before call asked reply after → Leaves airport before call ask.what after
   after_reply (told what) reply is replies = inl replies.1
+  after_reply (tries command) reply is replies = absurd replies
   after_reply (changes command) reply is (stepped, steps, reply_is, after_is) = ⊎_elim
       (λ (same : after ≡ before). inl same)
       (λ (grown : IsTaken (replay airport before) command × (after ≡ with_last (record { call = call; command = command }) before)). inr (record {
@@ -71,6 +73,7 @@ module _ (airport : AirportParts) (before : List Entry) (call : ℕ) (ask : Ask)
 
   after_given : (given : Given) → GivesAnswer airport before call ask given after → Leaves airport before call ask.what after
   after_given (replied reply) gives = after_reply (ask_outcome (replay airport before) before ask) reply refl gives
+  after_given (tried trial) gives = inl gives.1
   after_given no_memory gives = inl gives
   after_given keeper_fault gives = inl gives.1
 

@@ -15,8 +15,9 @@ use Rattle.desk_asks.specs.declared.asks.Command.{Command}
 use Rattle.desk_asks.specs.declared.asks.Entry.{Entry}
 use Rattle.desk_asks.specs.declared.asks.What.TheVariants.{Change}
 use Rattle.desk_words.specs.declared.replies.Reply.{Reply}
+use Rattle.desk_words.specs.declared.trials.Trial.{Trial}
 use Rattle.desk_words.specs.declared.replies.ReplyBody.TheVariants.{Ahead}
-use Rattle.history_core.specs.Answer.{ActsAs, Given, GivesAnswer, Replies, acted_from, added_entries, changes, keeper_fault, no_memory, replied, told}
+use Rattle.history_core.specs.Answer.{ActsAs, Given, GivesAnswer, Replies, Tries, acted_from, added_entries, changes, keeper_fault, no_memory, replied, told, tried}
 use Rattle.history_core.specs.History.{IsLegal, call_limit, call_of, replay}
 use Rattle.history_core.specs.Opening.{next_after, next_from}
 use Rattle.history_core.specs.Acceptance.{Stepped, TakenAs, accepted, ahead, full, refused, repeated, stepped_reply}
@@ -62,10 +63,16 @@ module _ (airport : AirportParts) (before : List Entry) (entry : Entry) (legal :
     after_reply true reply is replies = absurd (cc)
     after_reply false reply is (stepped, steps, reply_is, after_is) = after_step stepped steps after_is
 
+    not_tried : (late : Bool) (trial : Trial) → Tries (replay airport before) (length before) (if late then told Ahead else changes entry.command) trial → after ≡ with_last entry before
+    not_tried true trial is = absurd is
+    not_tried false trial is = absurd is
+
     after_given : (given : Given) (bytes : List ℕ) → Replied bytes ≡ acted_from airport given
         → GivesAnswer airport before entry.call (record { seen = 0; what = Change entry.command }) given after → after ≡ with_last entry before
     after_given (replied reply) bytes is gives =
         after_reply (nat_lt (replay airport before).version 0) reply (grind (arith, nat_tests)) gives
+    after_given (tried trial) bytes is gives =
+        not_tried (nat_lt (replay airport before).version 0) trial gives.0
     after_given no_memory bytes is gives = absurd (cc)
     after_given keeper_fault bytes is gives = absurd (cc)
 

@@ -1,6 +1,6 @@
-// What the body of POST /commits asks.
+// What the body of POST /commits asks, or of POST /tries/commits.
 ghost use Rattle.std.specs.Prelude.{◌≡◌, ◌≤◌, All, IfOk, length, map};
-ghost use Rattle.history_core.specs.History.{IsWhatOf};
+ghost use Rattle.desk_asks.specs.Commands.{IsCommandOf};
 ghost use Rattle.visit_book.specs.Edits.{IsEditOf, most_edits};
 ghost use Rattle.desk_bodies.specs.CommitsShown.{edit_shown};
 ghost use Rattle.desk_http.specs.CommitsRoute.{commit_asked as commit_asked_lem, edit_named as edit_named_lem, edits_named as edits_named_lem};
@@ -9,32 +9,32 @@ use super::if_formed;
 use crate::names::stand_named;
 use apron_base::{Listed, Memory, VisitNo};
 use apron_rules::Airport;
-use desk_asks::{Command, What};
+use desk_asks::Command;
 use desk_bodies::{EditText, read_commit};
 use desk_words::early::EarlyReply;
 use std::alloc::Global;
 use visit_book::{Draft, Edit};
 
-/// What is asked with this body.
+/// The command that comes with this body.
 pub(crate) fn commit_asked(
     alloc: Global,
     airport: &Airport,
     body: &[u8],
-) -> Result<Result<What, EarlyReply>, Memory>
+) -> Result<Result<Command, EarlyReply>, Memory>
     ensures asked { IfOk result (λ found. found ≡ commit_asked_lem airport.now body.now) }
-    ensures valid { IfOk result (λ found. IfOk found (IsWhatOf airport.now)) }
+    ensures valid { IfOk result (λ found. IfOk found (IsCommandOf airport.now)) }
 {
     let Some(commit) = if_formed(read_commit(alloc, body))? else {
         return Ok(Err(EarlyReply::NotJson));
     };
     let named = edits_named(alloc, airport, commit.edits.as_slice())?;
     Ok(named.map(|edits| {
-        What::Change(Command::Commit(Draft {
+        Command::Commit(Draft {
             desk: commit.desk,
             number: commit.draft,
             base: commit.base,
             edits,
-        }))
+        })
     }))
 }
 

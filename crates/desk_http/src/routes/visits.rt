@@ -1,6 +1,6 @@
-// What the body of POST /visits asks.
+// What the body of POST /visits asks, or of POST /tries/visits.
 ghost use Rattle.std.specs.Prelude.{◌≡◌, ◌<◌, IfOk, length};
-ghost use Rattle.history_core.specs.History.{IsWhatOf};
+ghost use Rattle.desk_asks.specs.Commands.{IsCommandOf};
 ghost use Rattle.visit_book.specs.NewVisits.{IsNewVisit};
 ghost use Rattle.desk_bodies.specs.VisitsShown.{HasForm, visit_shown};
 ghost use Rattle.desk_http.specs.VisitsRoute.{new_named as new_named_lem, visit_added as visit_added_lem};
@@ -9,26 +9,26 @@ use super::if_formed;
 use crate::names::type_named;
 use apron_base::Memory;
 use apron_rules::Airport;
-use desk_asks::{Command, What};
+use desk_asks::Command;
 use desk_bodies::{VisitText, read_visit};
 use desk_words::early::EarlyReply;
 use std::alloc::Global;
 use visit_book::{NewVisit, is_in_time};
 
-/// What is asked with this body.
+/// The command that comes with this body.
 pub(crate) fn visit_added(
     alloc: Global,
     airport: &Airport,
     body: &[u8],
-) -> Result<Result<What, EarlyReply>, Memory>
+) -> Result<Result<Command, EarlyReply>, Memory>
     ensures asked { IfOk result (λ found. found ≡ visit_added_lem airport.now body.now) }
-    ensures valid { IfOk result (λ found. IfOk found (IsWhatOf airport.now)) }
+    ensures valid { IfOk result (λ found. IfOk found (IsCommandOf airport.now)) }
 {
     let Some(text) = if_formed(read_visit(alloc, body))? else {
         return Ok(Err(EarlyReply::NotJson));
     };
     Ok(match new_named(airport, &text) {
-        Ok(new) if is_in_time(airport, &new) => Ok(What::Change(Command::AddVisit(new))),
+        Ok(new) if is_in_time(airport, &new) => Ok(Command::AddVisit(new)),
         Ok(_) => Err(EarlyReply::BadTimes),
         Err(early) => Err(early),
     })
