@@ -140,7 +140,7 @@ class Draws:
         entry = self.draw.randint(1, max(1, self.version)) if self.draw.random() < 0.9 else self.version + 2000
         return Drawn("GET", self.pick(
             "/version", "/unplaced", "/airport", f"/visits/{self.number() or 1}", f"/plan/{day}", f"/chart/{day}", f"/day/{day}", f"/entries/{entry}",
-            f"/feeds/{self.draw.choices(['ALL', 'HIGH', 'NONE'], [5, 5, 1])[0]}/{after}"))
+            f"/feeds/{self.draw.choices(['ALL', 'HIGH', 'NONE'], [5, 5, 1])[0]}/{after}", f"/flights/{self.draw.choice(self.flights)[0]}"))
 
     # Requests with a change that is mostly a fault
 
@@ -175,6 +175,8 @@ class Draws:
             return f"/{word}/" + self.pick("0", "01", "4294967296", "4294967295", "99999999999", "x", "", "1/1", "-1", "+1", "٣")
         if target.startswith("/feeds"):
             return "/feeds/" + self.pick("all/0", "ALL/00", "ALL", "ALL/0/0", "/0", "THIRTEEN-CHAR/0", "ALL/4294967296")
+        if target.startswith("/flights"):
+            return "/flights/" + self.pick("lh1", "LH", "LH12345", "L 1", "121", "LH1a", "LH1AB", "LH1/27", "LÄ1", "LH0001", "XYZ1Z")
         return self.pick(target.upper(), "/stands", "*", "/", "/visits", "http://apron/version", "/vérsion")
 
     def change_head(self, drawn):

@@ -1,10 +1,10 @@
-"""What long replies cost: charts of aircraft on one stand at one minute, with the reports that make them, and lists of parts."""
+"""What long replies cost: charts of aircraft on one stand at one minute, with the reports that make them, lists of parts, and lists of visits."""
 
 import random
 
 from shared.served import request
 from cost_trials.session import MB, MOST_EDITS, MOST_VISITS, Desk, Figure, Room, post
-from journal_bytes import commit_of, on_block_of, put_of, visit_of
+from journal_bytes import commit_of, key_of, on_block_of, put_of, visit_of
 
 CHARTED, REPORTED, LAST_REPORTS = 3000, 6000, 100
 # How many are reported on one stand, if each of them meets as many of the others, and how many minutes lie between two of them.
@@ -97,3 +97,17 @@ def lists(program, folder):
         yield Figure(f"GET {target} of {count} parts", costs[0] / 1000, "ms")
         yield Figure(f"GET {target} of none", costs[1] / 1000, "ms")
         yield Figure(f"a part of GET {target}", (costs[0] - costs[1]) / count, "µs", most=A_PART)
+
+
+def flight(program, folder):
+    """The 20,000 visits of a flight cost at most a tenth more than the same ones as those of a day."""
+    room, costs = Room(folder, "demo"), []
+    came = key_of("LH", 1, 1)
+    journal = room.journal("flight", lambda: (visit_of(f"V{number}", room.type(), 3, 600, 660, came) for number in range(1, MOST_VISITS + 1)))
+    with Desk(program, room.files, journal) as desk:
+        of_day, of_flight = desk.ask([request("GET", target) for target in ("/day/1", "/flights/LH1")])
+        assert of_day == of_flight and of_day.count(b'"visit":') == MOST_VISITS, "the day and the flight have other visits"
+        for target in ("/day/1", "/flights/LH1"):
+            costs.append(desk.cost([request("GET", target)] * 20))
+            yield Figure(f"GET {target} of {MOST_VISITS} visits", costs[-1] / 1000, "ms")
+    yield Figure("the one, of the other", costs[1] / costs[0], "times", most=1.1)

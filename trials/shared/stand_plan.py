@@ -88,7 +88,7 @@ class Plan:
         return self.visits[number - 1] if 1 <= number <= len(self.visits) else None
 
     def add(self, said):
-        """Of a visit that lies in the plan, and has a type of the airport and no flights."""
+        """Of a visit that lies in the plan, and has a type of the airport."""
         number = self.names.get(said["name"])
         if number is not None:
             it = self.visits[number - 1]
@@ -260,6 +260,10 @@ class Plan:
                 seen.add(visit)
         return self.told(visits=[self.visit(visit) for visit in sorted(seen)])
 
+    def visits_of_flight(self, said):
+        flown = ({key["flight"] for key in (it.asked["arr"], it.asked["dep"]) if key} for it in self.visits)
+        return self.told(visits=[self.visit(number) for number, flights in enumerate(flown, 1) if said["flight"] in flights])
+
     def chart(self, day):
         """The bytes of the chart of a day."""
         visits = [self.visit(number) for number in range(1, len(self.visits) + 1)]
@@ -286,7 +290,8 @@ class Plan:
 TARGETS = {
     "add": ("POST", "/visits"), "commit": ("POST", "/commits"), "cancel": ("POST", "/cancels"), "version_of": ("GET", "/version"),
     "read": ("GET", "/visits/{visit}"), "day": ("GET", "/plan/{day}"), "unplaced": ("GET", "/unplaced"),
-    "entry": ("GET", "/entries/{entry}"), "airport_of": ("GET", "/airport"), "visits_of_day": ("GET", "/day/{day}")}
+    "entry": ("GET", "/entries/{entry}"), "airport_of": ("GET", "/airport"), "visits_of_day": ("GET", "/day/{day}"),
+    "visits_of_flight": ("GET", "/flights/{flight}")}
 KINDS = {"add": "visit", "commit": "commit", "cancel": "cancel"}
 COMMANDS = set(KINDS)
 

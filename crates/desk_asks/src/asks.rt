@@ -3,7 +3,7 @@ ghost use Rattle.std.specs.Prelude.{◌≡◌, IfOk, OnErr};
 ghost use Rattle.desk_asks.specs.Commands.{AsksCommand, desk_of, kind_of};
 
 use apron_base::{Memory, Name, VisitNo};
-use mvt_grammar::Mvt;
+use mvt_grammar::{Flight, Mvt};
 use std::alloc::Global;
 use visit_book::{Draft, Event, NewVisit};
 
@@ -116,6 +116,8 @@ pub enum What {
     Airport,
     /// The visits that hold a stand or wait for one on this day, counted from 1.
     Day(u32),
+    /// The visits that come or leave by this flight.
+    Flight(Flight),
 }
 
 /// What a desk asks with one request.
@@ -142,6 +144,7 @@ impl Ask {
             What::Entry(number) => What::Entry(*number),
             What::Airport => What::Airport,
             What::Day(day) => What::Day(*day),
+            What::Flight(flight) => What::Flight(*flight),
         };
         Ok(Ask {
             seen: self.seen,

@@ -5,6 +5,7 @@ pub mod Parts
 pub mod Unheard
 pub mod FedParts
 pub mod Takes
+pub mod FlightTexts
 pub mod Rows
 pub mod Pieces
 pub mod FeedTargets

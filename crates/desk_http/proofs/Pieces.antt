@@ -14,10 +14,12 @@ use Rattle.std.proofs.lemmas.Str.{IsAscii-append, IsUtf8-from_ascii}
 use Rattle.std.proofs.lemmas.Str.Ascii.{IsAscii-nil, IsAscii-cons}
 use Rattle.matchit.specs.Seek.{has_slash}
 use Rattle.apron_base.specs.Digits.{are_digits, most_digits, number_of}
+use Rattle.mvt_grammar.specs.Flights.{flight_of, is_airline_byte}
 use Rattle.desk_http.specs.Numbers.{within_32_bits}
 use Rattle.desk_http.specs.Table.{text_after_word}
-use Rattle.desk_http.specs.Targets.{Parameter, look_up, numbered, onto_first, pieces, plain_number, route_of, route_of_pieces, route_with, routes_of_words, routes_with_text, slash, zero_digit}
+use Rattle.desk_http.specs.Targets.{Parameter, flown, look_up, numbered, onto_first, pieces, plain_number, route_of, route_of_pieces, route_with, routes_of_words, routes_with_text, slash, zero_digit}
 use Rattle.desk_http.specs.declared.targets.Route.{Route}
+use Rattle.desk_http.proofs.FlightTexts.{flight-plain, plain-ascii}
 use Rattle.desk_http.proofs.Rows.{In-left, In-map, In-right, IsOn, IsOnRow, Row, end_of, front_ascii, is_ascii, rows, same_in, text_row, word_row}
 use Rattle.desk_http.proofs.Takes.{In, by, takes, takes_on, takes_on-nil}
 
@@ -260,10 +262,16 @@ read-ascii text (numbered route) found e =
       | None ↦ λ _ e. absurd (cc)
       | Some n ↦ λ is _. all-ascii is_ascii_digit digit-ascii text (plain_number-digits text n is)
     ] refl e
+read-ascii text (flown route) found e =
+    elim (flight_of text) as (λ o. flight_of text ≡ o → option_map route o ≡ Some found → IsAscii text) [
+      | None ↦ λ _ e. absurd (cc)
+      | Some flight ↦ λ is _. all-ascii is_airline_byte plain-ascii text (flight-plain text flight is)
+    ] refl e
 
 -- the empty text names none
 read-nil : (parameter : Parameter) → route_with [] parameter ≡ None
 read-nil (numbered route) = refl
+read-nil (flown route) = refl
 
 -- a parameter takes a text that names a route
 takes-text : (text : List ℕ) (parameter : Parameter) (found : Route) → has_slash text ≡ false → route_with text parameter ≡ Some found → takes (256 ∷ []) text ≡ true

@@ -3,13 +3,16 @@ use Rattle.std.specs.Prelude.{ℕ, ◌==◌, List, [], ◌∷◌, codes, Option,
 use Rattle.std.specs.Option.{option_and_then}
 use Rattle.std.specs.Str.{bytes_eq}
 use Rattle.apron_base.specs.Digits.{most_digits, number_of}
+use Rattle.mvt_grammar.specs.Flights.{flight_of}
+use Rattle.mvt_grammar.specs.declared.message.Flight.{Flight as AFlight}
 use Rattle.desk_http.specs.Numbers.{within_32_bits}
 use Rattle.desk_http.specs.declared.targets.Route.{Route}
-use Rattle.desk_http.specs.declared.targets.Route.TheVariants.{Visits, Commits, Mvt, Reports, Cancels, Version, Unplaced, Airport, Visit, Entry, Plan, Chart, Day}
+use Rattle.desk_http.specs.declared.targets.Route.TheVariants.{Visits, Commits, Mvt, Reports, Cancels, Version, Unplaced, Airport, Visit, Entry, Plan, Chart, Day, Flight}
 
--- how a text after a word names a route: by a number
+-- how a text after a word names a route: by a number, or by a flight
 pub data Parameter : Type 0 where
   numbered : (ℕ → Route) → Parameter
+  flown : (AFlight → Route) → Parameter
 
 -- the routes that a word alone names, each with its word
 abbrev pub routes_of_words : List (List ℕ × Route)
@@ -32,6 +35,7 @@ routes_with_text =
     ∷ (codes "plan", numbered Plan)
     ∷ (codes "chart", numbered Chart)
     ∷ (codes "day", numbered Day)
+    ∷ (codes "flights", flown Flight)
     ∷ []
 
 -- what stands at this word
@@ -68,6 +72,7 @@ plain_number (digit ∷ digits) =
 -- the route that this text names
 abbrev pub route_with : List ℕ → Parameter → Option Route
 route_with text (numbered route) = option_map route (plain_number text)
+route_with text (flown route) = option_map route (flight_of text)
 
 -- the route that the pieces of a target name: a slash and a word, or a slash, a word, a slash and
 -- a text

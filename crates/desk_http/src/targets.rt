@@ -6,6 +6,7 @@ ghost use Rattle.desk_http.specs.Targets.{plain_number as plain_number_lem, rout
 use crate::numbers::within_32_bits;
 use apron_base::{MAX_DIGITS, Memory, number_of};
 use matchit::{InsertError, Router};
+use mvt_grammar::{Flight, read_flight};
 use std::alloc::Global;
 
 /// What a target names without the text that may end it.
@@ -24,6 +25,7 @@ pub(crate) enum Endpoint {
     Plan,
     Chart,
     Day,
+    Flight,
 }
 
 /// What a target names.
@@ -47,11 +49,13 @@ pub(crate) enum Route {
     Chart(u32),
     /// The visits of this day.
     Day(u32),
+    /// The visits of this flight.
+    Flight(Flight),
 }
 
 /// All endpoints with the router's patterns of their targets, in the order of the definition's two
 /// lists.
-const PATTERNS: [(&str, Endpoint); 13] = [
+const PATTERNS: [(&str, Endpoint); 14] = [
     ("/visits", Endpoint::Visits),
     ("/commits", Endpoint::Commits),
     ("/mvt", Endpoint::Mvt),
@@ -65,6 +69,7 @@ const PATTERNS: [(&str, Endpoint); 13] = [
     ("/plan/{n}", Endpoint::Plan),
     ("/chart/{n}", Endpoint::Chart),
     ("/day/{n}", Endpoint::Day),
+    ("/flights/{flight}", Endpoint::Flight),
 ];
 
 /// The routes of a desk.
@@ -143,6 +148,7 @@ fn route_at(endpoint: Endpoint, text: &[u8]) -> Option<Route>
         Endpoint::Plan => Route::Plan(plain_number(text)?),
         Endpoint::Chart => Route::Chart(plain_number(text)?),
         Endpoint::Day => Route::Day(plain_number(text)?),
+        Endpoint::Flight => Route::Flight(read_flight(text)?),
     })
 }
 

@@ -10,7 +10,7 @@ use Rattle.desk_asks.specs.Commands.{desk_of, kind_of}
 use Rattle.desk_asks.specs.declared.asks.Command.{Command}
 use Rattle.desk_asks.specs.declared.asks.Entry.{Entry}
 use Rattle.desk_asks.specs.declared.asks.What.{What}
-use Rattle.desk_asks.specs.declared.asks.What.TheVariants.{Change, Version as AskVersion, Visit as AskVisit, Plan as AskPlan, Unplaced as AskUnplaced, Chart as AskChart, Entry as AskEntry, Airport as AskAirport, Day as AskDay}
+use Rattle.desk_asks.specs.declared.asks.What.TheVariants.{Change, Version as AskVersion, Visit as AskVisit, Plan as AskPlan, Unplaced as AskUnplaced, Chart as AskChart, Entry as AskEntry, Airport as AskAirport, Day as AskDay, Flight as AskFlight}
 use Rattle.desk_asks.specs.declared.asks.Ask.{Ask}
 use Rattle.desk_words.specs.declared.replies.Reply.{Reply}
 use Rattle.desk_words.specs.declared.replies.ReplyBody.{ReplyBody}
@@ -19,6 +19,7 @@ use Rattle.desk_words.specs.Fixed.{no_memory_text, keeper_fault_text}
 use Rattle.desk_words.specs.Replies.{reply_text}
 use Rattle.plan_lists.specs.Held.{held_on}
 use Rattle.plan_lists.specs.OfDay.{visits_on}
+use Rattle.plan_lists.specs.OfFlight.{visits_of_flight}
 use Rattle.plan_lists.specs.Unplaced.{unplaced_parts}
 use Rattle.wall_chart.specs.Chart.{chart_text}
 use Rattle.history_core.specs.Acceptance.{Stepped, TakenAs, accepted, reply_at, stepped_reply}
@@ -58,6 +59,7 @@ sought_of plan history (AskChart day) = told (ToldChart (chart_text plan.airport
 sought_of plan history (AskEntry number) = told (entry_told number (entry_at history number))
 sought_of plan history AskAirport = told ToldAirport
 sought_of plan history (AskDay day) = told (ToldDay (visits_on plan day))
+sought_of plan history (AskFlight flight) = told (ToldDay (visits_of_flight plan flight))
 
 -- what an ask comes to: one that has seen a version later than the plan's is ahead, whatever it
 -- asks

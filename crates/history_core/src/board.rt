@@ -16,7 +16,7 @@ ghost use Rattle.history_core.specs.Taking.{IsChangeOf};
 
 use crate::bumped::bumped_in;
 use crate::opening::{OpenFault, Opening, opening_of};
-use crate::questions::{chart_told, day_told, entry_told, plan_told, unplaced_told};
+use crate::questions::{chart_told, day_told, entry_told, flight_told, plan_told, unplaced_told};
 use crate::room::make_room;
 use crate::taking::{Taken, take_command};
 use apron_base::{Acted, Keeper, Listed, Memory, PartId, VisitNo};
@@ -183,6 +183,7 @@ impl<'a, K: Keeper> Board<'a, K> {
             What::Entry(number) => Ok(entry_told(self.history.as_slice(), *number)),
             What::Airport => Ok(ReplyBody::Airport),
             What::Day(day) => day_told(alloc, self.airport, &self.plan, *day),
+            What::Flight(flight) => flight_told(alloc, &self.plan, flight),
         };
         self.reply_with(alloc, news)
     }

@@ -3,6 +3,7 @@ ghost use Rattle.std.specs.Prelude.{◌≡◌, ◌≤◌, IfOk};
 ghost use Rattle.desk_words.specs.Replies.{IsTellable};
 ghost use Rattle.plan_lists.specs.Held.{held_on};
 ghost use Rattle.plan_lists.specs.OfDay.{visits_on};
+ghost use Rattle.plan_lists.specs.OfFlight.{visits_of_flight};
 ghost use Rattle.plan_lists.specs.Unplaced.{unplaced_parts};
 ghost use Rattle.wall_chart.specs.Chart.{chart_text};
 ghost use Rattle.history_core.specs.Answer.{entry_told};
@@ -12,8 +13,9 @@ use apron_base::Memory;
 use apron_rules::Airport;
 use desk_asks::Entry;
 use desk_words::replies::ReplyBody;
+use mvt_grammar::Flight;
 use plan_core::Plan;
-use plan_lists::{held_on, unplaced_parts, visits_on};
+use plan_lists::{held_on, unplaced_parts, visits_of_flight, visits_on};
 use std::alloc::Global;
 use wall_chart::chart;
 
@@ -74,6 +76,20 @@ pub(crate) fn day_told(
     ensures tellable { IfOk result IsTellable }
 {
     let visits = visits_on(alloc, airport, plan, day)?;
+    Ok(ReplyBody::Day { visits })
+}
+
+/// The visits that come or leave by a flight. The only error is a lack of memory.
+pub(crate) fn flight_told(
+    alloc: Global,
+    plan: &Plan,
+    flight: &Flight,
+) -> Result<ReplyBody, Memory>
+    ensures told { IfOk result
+        (λ news. news ≡ ReplyBody.Day (visits_of_flight plan.now.plan flight.now)) }
+    ensures tellable { IfOk result IsTellable }
+{
+    let visits = visits_of_flight(alloc, plan, flight)?;
     Ok(ReplyBody::Day { visits })
 }
 

@@ -2,4 +2,4 @@ pub mod Minutes
 pub mod Passed
 pub mod Ranks
 pub mod OnStands
-pub mod OfDay
+pub mod Picked

@@ -3,3 +3,4 @@ pub mod Rows
 pub mod Held
 pub mod Unplaced
 pub mod OfDay
+pub mod OfFlight

@@ -1,5 +1,6 @@
 // What plans hold, what boards answer, and how replies tell it.
 mod days;
+mod effects;
 mod history;
 mod replies;
 mod rules;

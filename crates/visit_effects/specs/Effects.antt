@@ -62,16 +62,23 @@ flight_key OnBlock visit = visit.arr
 flight_key ExpectedOff visit = visit.dep
 flight_key OffBlock visit = visit.dep
 
--- the visit is live, and has a key of this flight and this day
-abbrev pub is_meant : Happening → Flight → ℕ → Visit → Bool
-is_meant moment flight day visit = is_live visit
-    && option_map_or (is_key_of flight day) (flight_key moment visit) false
+-- the visit comes, or leaves, by this flight of this day
+abbrev pub has_flight : Happening → Flight → ℕ → Visit → Bool
+has_flight moment flight day visit =
+    option_map_or (is_key_of flight day) (flight_key moment visit) false
 
--- the first visit that is meant, on the latest day of the plan, or the day before it, that has the
--- message's day of the month
+-- the visit is live, and has the flight
+abbrev pub is_meant : Happening → Flight → ℕ → Visit → Bool
+is_meant moment flight day visit = is_live visit && has_flight moment flight day visit
+
+-- the latest day of the plan, or the day before it, that has the message's day of the month
+abbrev pub day_meant : AirportParts → Mvt → Option ℕ
+day_meant airport message = latest_day (is_of_month airport message.day) 0 (airport.days + 1)
+
+-- the first visit that is meant, on the day that is meant
 abbrev pub visit_meant : AirportParts → List Visit → Happening → Mvt → Option Visit
 visit_meant airport visits moment message = do
-  day ← latest_day (is_of_month airport message.day) 0 (airport.days + 1)
+  day ← day_meant airport message
   find (is_meant moment message.flight day) visits
 
 -- the flight at a moment: one that a visit comes by, or one that it leaves by
@@ -81,12 +88,11 @@ movement_of OnBlock key = Arrival key
 movement_of ExpectedOff key = Departure key
 movement_of OffBlock key = Departure key
 
--- the flight that the message is about, on the latest day of the plan, or the day before it, that
--- has its day of the month
+-- the flight that the message is about, on the day that is meant
 abbrev pub movement_meant : AirportParts → Mvt → Option Movement
 movement_meant airport message = do
   told ← facts_of airport message
-  day ← latest_day (is_of_month airport message.day) 0 (airport.days + 1)
+  day ← day_meant airport message
   Some (movement_of told.moment (record { flight = message.flight; day = day }))
 
 -- the first live visit of a flight

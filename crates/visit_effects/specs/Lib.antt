@@ -1,3 +1,4 @@
+pub mod Causes
 pub mod ClockTimes
 pub mod Effects
 pub mod Happenings

@@ -1,12 +1,14 @@
 // What movement messages do to visits.
-ghost use Rattle.std.specs.Prelude.{◌≡◌, ◌<◌, false, All, IfSome, find, option_copied};
+ghost use Rattle.std.specs.Prelude.{◌≡◌, ◌<◌, ◌^◌, false, All, IfOk, IfSome, find, option_copied};
 ghost use Rattle.std.specs.Option.{option_map_or};
 ghost use Rattle.mvt_grammar.specs.Readable.{IsReadable};
-ghost use Rattle.visit_effects.specs.Effects.{changed_at, changed_by, effect_of, facts_elsewhere, facts_here, facts_of, facts_of_arrival, flight_key, is_meant, movement_meant, movement_of, on_block_at, scheduled_minute, visit_after_landing, visit_meant};
+ghost use Rattle.visit_effects.specs.Causes.{effect_or_why};
+ghost use Rattle.visit_effects.specs.Effects.{changed_at, changed_by, day_meant, effect_of, facts_elsewhere, facts_here, facts_of, facts_of_arrival, flight_key, has_flight, is_meant, movement_meant, movement_of, on_block_at, scheduled_minute, visit_after_landing, visit_meant};
 ghost use Rattle.visit_book.specs.Flights.{is_key_of, is_same_flight};
 ghost use Rattle.visit_book.specs.WellFormed.{IsWellFormed, plan_end};
 ghost use Rattle.visit_book.specs.declared.visits.End.TheVariants.{Live};
 
+use crate::causes::{NoEffect, why_not_meant, why_unchanged, why_untold};
 use crate::clock_times::{day_of_month, plan_minute_of};
 use apron_base::Minute;
 use apron_rules::Airport;
@@ -15,7 +17,7 @@ use visit_book::{Key, Visit, arrive, depart, estimate_off, is_live, push};
 
 /// What happens to a visit at the time that a message gives.
 #[derive(Clone, Copy, Debug, PartialEq, Eq)]
-enum Happening {
+pub(crate) enum Happening {
     /// It lands, as expected or in fact.
     Touchdown,
     /// It comes on block.
@@ -53,9 +55,27 @@ pub fn effect_of(airport: &Airport, visits: &[Visit], message: &Mvt) -> Option<V
     ensures is { result ≡ effect_of airport.now visits.now message.now }
     ensures well_formed { IfSome result (IsWellFormed airport.now) }
 {
-    let told = facts_of(airport, message)?;
-    let visit = visit_meant(airport, visits, told.moment, message)?;
-    changed_by(airport, &told, visit)
+    effect_or_why(airport, visits, message).ok()
+}
+
+/// The visit as the message changes it, as `effect_of` gives it, or why it changes nothing: the
+/// first cause that there is. It takes no memory.
+pub fn effect_or_why(airport: &Airport, visits: &[Visit], message: &Mvt) -> Result<Visit, NoEffect>
+    requires each { All (IsWellFormed airport.now) visits.now }
+    requires readable { IsReadable message.now }
+    ensures is { result ≡ effect_or_why airport.now visits.now message.now }
+    ensures well_formed { IfOk result (IsWellFormed airport.now) }
+{
+    let Some(told) = facts_of(airport, message) else {
+        return Err(why_untold(airport, message));
+    };
+    let Some(visit) = visit_meant(airport, visits, told.moment, message) else {
+        return Err(why_not_meant(airport, visits, told.moment, message));
+    };
+    match changed_by(airport, &told, visit) {
+        Some(new) => Ok(new),
+        None => Err(why_unchanged(told.moment, visit)),
+    }
 }
 
 /// The flight that the message is about, on the latest day with its day of the month. `None` if the
@@ -66,7 +86,7 @@ pub fn movement_meant(airport: &Airport, message: &Mvt) -> Option<Movement>
     ensures is { result ≡ movement_meant airport.now message.now }
 {
     let told = facts_of(airport, message)?;
-    let day = day_of_month(airport, message.day, 0, airport.parts().days + 1)?;
+    let day = day_meant(airport, message)?;
     let key = Key {
         flight: message.flight,
         day: day as u8,
@@ -156,8 +176,16 @@ fn visit_meant<'a>(
     ensures well_formed { IfSome (option_copied result) (IsWellFormed airport.now) }
     ensures live { IfSome (option_copied result) (λ visit. visit.end ≡ Live) }
 {
-    let day = day_of_month(airport, message.day, 0, airport.parts().days + 1)?;
+    let day = day_meant(airport, message)?;
     first_meant(visits, moment, &message.flight, day)
+}
+
+// The latest day of the plan, or the day before it, that has the message's day of the month.
+pub(crate) fn day_meant(airport: &Airport, message: &Mvt) -> Option<u32>
+    ensures is { result ≡ day_meant airport.now message.now }
+    ensures few { IfSome result (λ day. day < 2 ^ 8) }
+{
+    day_of_month(airport, message.day, 0, airport.parts().days + 1)
 }
 
 fn first_meant<'a>(
@@ -176,7 +204,14 @@ fn first_meant<'a>(
 fn is_meant(moment: Happening, flight: &Flight, day: u32, visit: &Visit) -> bool
     ensures is { result ≡ is_meant moment flight.now day visit.now }
 {
-    is_live(visit) && is_by(flight_key(moment, visit), flight, day)
+    is_live(visit) && has_flight(moment, flight, day, visit)
+}
+
+// Whether the visit comes, or leaves, by this flight of this day.
+pub(crate) fn has_flight(moment: Happening, flight: &Flight, day: u32, visit: &Visit) -> bool
+    ensures is { result ≡ has_flight moment flight.now day visit.now }
+{
+    is_by(flight_key(moment, visit), flight, day)
 }
 
 // Whether there is a key, and it is of this flight and this day.

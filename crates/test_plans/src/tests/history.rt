@@ -12,7 +12,7 @@ use test_airports::{on_one_frontage, stand_on_n, type_of_40};
 use visit_book::{NewVisit, is_in_time};
 
 // One stand, N1, and one type, A320, with 40 least minutes.
-fn airport(alloc: Global) -> Result<Airport, Fail> {
+pub(super) fn airport(alloc: Global) -> Result<Airport, Fail> {
     on_one_frontage(
         alloc,
         Vec::from_array(alloc, [stand_on_n(Name::literal(b"N1"), 4_000)])?,
@@ -42,7 +42,7 @@ fn copies(alloc: Global, entries: &[Listed<u8>]) -> Result<Vec<Listed<u8>>, Fail
 
 // A board over a keeper of these entries, whose appends of these numbers fail; or why there is no
 // board.
-fn opened<'a>(
+pub(super) fn opened<'a>(
     alloc: Global,
     airport: &'a Airport,
     entries: Vec<Listed<u8>>,

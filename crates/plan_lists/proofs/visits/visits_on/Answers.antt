@@ -4,7 +4,7 @@ use Rattle.std.proofs.lemmas.List.Elements.{All-same}
 use Rattle.visit_book.specs.NewVisits.{IsNewVisit, new_of}
 use Rattle.visit_book.specs.declared.visits.Visit.{Visit}
 use Rattle.plan_lists.specs.OfDay.{is_visit_of, visits_on}
-use Rattle.plan_lists.proofs.OfDay.{day_is_new, one_more}
+use Rattle.plan_lists.proofs.Picked.{one_more, picked_are_new}
 use Rattle.plan_lists.proofs.visits.visits_on.Goals as goal
 
 pub loop-visit-preserved : goal.loop-visit-preserved
@@ -17,4 +17,4 @@ pub returns-clause-new : goal.returns-clause-new
 returns-clause-new c =
     let plan = c.args.plan.now.plan in
     let is : c.loop-visit.seen ≡ visits_on plan c.args.day = grind (arith, common_steps) in
-    All-same (λ (visit : Visit). IsNewVisit (new_of visit)) c.loop-visit.seen (visits_on plan c.args.day) is (day_is_new plan c.args.day c.visits-visits.ensures.plan)
+    All-same (λ (visit : Visit). IsNewVisit (new_of visit)) c.loop-visit.seen (visits_on plan c.args.day) is (picked_are_new plan (is_visit_of plan.airport c.args.day) c.visits-visits.ensures.plan)

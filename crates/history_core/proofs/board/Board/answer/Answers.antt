@@ -3,7 +3,7 @@ use Rattle.desk_words.specs.Replies.{IsTellable}
 use Rattle.history_core.specs.Answer.{visit_told}
 use Rattle.history_core.proofs.Boards.{plan_airport}
 use Rattle.history_core.proofs.Replies.{visit_tellable}
-use Rattle.history_core.proofs.board.Board.answer.Goals.{in-Version, in-Visit, in-Plan, in-Unplaced, in-Chart, in-Entry, in-Airport, in-Day}
+use Rattle.history_core.proofs.board.Board.answer.Goals.{in-Version, in-Visit, in-Plan, in-Unplaced, in-Chart, in-Entry, in-Airport, in-Day, in-Flight}
 use Rattle.history_core.proofs.board.Board.answer.Goals as goal
 
 pub plan_told-news-requires-clause-airport : goal.plan_told-news-requires-clause-airport
@@ -32,6 +32,7 @@ reply_with-requires-2 g c =
         | in-Entry w ↦ rw w.news-is w.entry_told.ensures.tellable
         | in-Airport w ↦ rw w.news-is tt
         | in-Day w ↦ rw w.news-is w.day_told-news.ensures.tellable
+        | in-Flight w ↦ rw w.news-is w.flight_told-news.ensures.tellable
       ];
     }
 
@@ -49,4 +50,5 @@ returns-clause-acts g c = c.reply_with-2.ensures.acts c.args.call c.args.ask.now
       | in-Entry w ↦ search rules
       | in-Airport w ↦ search rules
       | in-Day w ↦ search rules
+      | in-Flight w ↦ search rules
     ])

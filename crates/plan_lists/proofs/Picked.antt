@@ -1,16 +1,16 @@
--- The visits of a day were added with data that are valid at any airport.
+-- Visits of a plan that pass a test.
 use Rattle.std.proofs.Common.{◌≡◌, ◌<◌, ◌+◌, ◌++◌, ◌∷◌, [], ℕ, Bool, List, length, refl, slice_index_or, take, if◌then◌else◌}
 use Rattle.std.specs.Prelude.{All, filter}
 use Rattle.std.proofs.lemmas.List.Elements.{All-filter, All-weaker, filter_more}
 use Rattle.visit_book.specs.NewVisits.{IsNewVisit, new_of}
 use Rattle.visit_book.specs.declared.visits.Visit.{Visit}
 use Rattle.plan_core.specs.PlanState.{IsPlan, IsVisitAt, PlanState}
-use Rattle.plan_lists.specs.OfDay.{is_visit_of, visits_on}
 
-pub day_is_new : (plan : PlanState) (day : ℕ) → IsPlan plan → All (λ visit. IsNewVisit (new_of visit)) (visits_on plan day)
-day_is_new plan day h =
+-- they were added with data that are valid at any airport
+pub picked_are_new : (plan : PlanState) (p : Visit → Bool) → IsPlan plan → All (λ visit. IsNewVisit (new_of visit)) (filter p plan.visits)
+picked_are_new plan p h =
     let New : Visit → Type 0 = λ visit. IsNewVisit (new_of visit) in
-    All-filter (is_visit_of plan.airport day) New plan.visits
+    All-filter p New plan.visits
     (All-weaker (IsVisitAt plan.airport plan.version) New (λ visit at. at.new.new_visit) plan.visits h.each)
 
 -- the visits so far that pass a test, and one more
