@@ -44,6 +44,10 @@ def put_of(visit, part, stand):
     return struct.pack("<BIBH", 1, visit, part, stand)
 
 
+def lift_of(visit, part):
+    return struct.pack("<BIB", 2, visit, part)
+
+
 def cut_of(visit, part, minute):
     return struct.pack("<BIBI", 3, visit, part, minute)
 

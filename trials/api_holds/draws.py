@@ -140,7 +140,7 @@ class Draws:
         entry = self.draw.randint(1, max(1, self.version)) if self.draw.random() < 0.9 else self.version + 2000
         return Drawn("GET", self.pick(
             "/version", "/unplaced", "/airport", f"/visits/{self.number() or 1}", f"/plan/{day}", f"/chart/{day}", f"/day/{day}", f"/entries/{entry}",
-            f"/feeds/{self.draw.choices(['ALL', 'HIGH', 'NONE'], [5, 5, 1])[0]}/{after}"))
+            f"/history/{self.pick(0, entry)}", f"/feeds/{self.draw.choices(['ALL', 'HIGH', 'NONE'], [5, 5, 1])[0]}/{after}"))
 
     # Requests with a change that is mostly a fault
 

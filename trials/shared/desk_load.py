@@ -59,6 +59,7 @@ class Desk:
         return self.draw.choice([
             ("version_of", {}), ("unplaced", {}), ("day", {"day": self.draw.randint(1, self.airport.days)}),
             ("read", {"visit": self.draw.randint(1, self.visits + 2)}), ("entry", {"entry": self.draw.randint(1, self.seen + 2)}),
+            ("digest", {"entries": self.draw.randint(0, self.seen + 2)}),
             ("airport_of", {}), ("visits_of_day", {"day": self.draw.randint(1, self.airport.days)})])
 
     def visit(self, name):

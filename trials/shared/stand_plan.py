@@ -2,9 +2,12 @@
 tells them. There are no messages and reports here, so that no part is ever on block or displaced."""
 
 import csv
+import hashlib
 import json
+import struct
 import tomllib
 
+from journal_bytes import cancel_of, commit_of, cut_of, join_of, lift_of, put_of, visit_of
 from stand_planning.rules import DAY, MOST_PARTS, Rules, Type, letter_of
 from shared.stand_chart import Chart
 
@@ -69,6 +72,8 @@ class Plan:
         self.version, self.visits, self.names, self.drafts = 0, [], {}, {}
         # the call number and the command of each entry
         self.history = []
+        # the digest of no entry, of the first one, of the first two, and so on
+        self.digests = [bytes(32)]
         # the slots on each stand by visit: from, end and part
         self.held = [{} for _ in airport.stands]
 
@@ -236,6 +241,32 @@ class Plan:
         call, (kind, command, _) = self.history[number - 1]
         return self.told(call=call, desk=command.get("desk"), entry=number, kind=KINDS[kind])
 
+    def digest(self, said):
+        entries = said["entries"]
+        if entries > len(self.history):
+            return self.refused(404, "entry")
+        return self.told(digest=self.digests[entries].hex(), entry=entries)
+
+    def entry_bytes(self, call, ask):
+        """The bytes of an accepted command in a journal."""
+        kind, said, _ = ask
+        if kind == "add":
+            command = visit_of(said["name"], self.airport.type_of[said["type"]], said["class"], said["on"], said["off"])
+        elif kind == "commit":
+            command = commit_of(said["desk"], said["draft"], said["base"], [self.edit_bytes(it) for it in said["edits"]])
+        else:
+            command = cancel_of(said["visit"])
+        return struct.pack("<Q", call) + command
+
+    def edit_bytes(self, edit):
+        (kind, said), = edit.items()
+        part = said["visit"], said["part"]
+        if kind == "put":
+            return put_of(*part, self.airport.stand_of[said["stand"]])
+        if kind == "cut":
+            return cut_of(*part, said["at"])
+        return lift_of(*part) if kind == "lift" else join_of(*part)
+
     def airport_of(self, _):
         return self.told(**self.airport.told())
 
@@ -280,13 +311,14 @@ class Plan:
         assert isinstance(answer, Accepted), f"version {self.version + 1} is of a command that the plan refuses: {ask[:2]}"
         self.version += 1
         self.history.append((call, ask))
+        self.digests.append(hashlib.sha256(self.digests[-1] + self.entry_bytes(call, ask)).digest())
         answer.install()
 
 
 TARGETS = {
     "add": ("POST", "/visits"), "commit": ("POST", "/commits"), "cancel": ("POST", "/cancels"), "version_of": ("GET", "/version"),
     "read": ("GET", "/visits/{visit}"), "day": ("GET", "/plan/{day}"), "unplaced": ("GET", "/unplaced"),
-    "entry": ("GET", "/entries/{entry}"), "airport_of": ("GET", "/airport"), "visits_of_day": ("GET", "/day/{day}")}
+    "entry": ("GET", "/entries/{entry}"), "digest": ("GET", "/history/{entries}"), "airport_of": ("GET", "/airport"), "visits_of_day": ("GET", "/day/{day}")}
 KINDS = {"add": "visit", "commit": "commit", "cancel": "cancel"}
 COMMANDS = set(KINDS)
 

@@ -32,7 +32,7 @@ impl Form {
 }
 
 /// All of them.
-pub(crate) const FORMS: [Form; 12] = [
+pub(crate) const FORMS: [Form; 13] = [
     Form {
         first: "init",
         wanted: "AIRPORT TYPES JOURNAL",
@@ -88,6 +88,13 @@ pub(crate) const FORMS: [Form; 12] = [
         does: "makes a journal of format 1 one of format 2",
         counts: &[3],
         journal: JournalUse::Written,
+    },
+    Form {
+        first: "history",
+        wanted: "AIRPORT TYPES [N] JOURNAL",
+        does: "prints the version and the digest of the history, or of its first N entries",
+        counts: &[3, 4],
+        journal: JournalUse::Read,
     },
     Form {
         first: "check",

@@ -3,6 +3,7 @@ use crate::desks::{is_day_word, screens_of, workers_of};
 use crate::forms::{FORMS, Form, form_of};
 use apron_base::{Name, Word};
 use apron_check::airport_of;
+use apron_run::plain_number;
 use apron_serve::connections_of;
 use std::fmt;
 use std::rt::Files;
@@ -93,6 +94,8 @@ enum Unclear<'w> {
     Desk(&'w str),
     // a day that the plan does not have
     Day(&'w str),
+    // more entries than the history has
+    Entries(&'w str),
     Number(Number<'w>),
 }
 
@@ -115,6 +118,12 @@ impl fmt::Display for Unclear<'_> {
                 "DESK is '{desk}', and has to be 1 to 12 capitals, digits or dashes"
             ),
             Unclear::Day(day) => { write!(f, "DAY is '{day}', and has to be a day of the plan") }
+            Unclear::Entries(entries) => {
+                write!(
+                    f,
+                    "N is '{entries}', and has to be at most the version of the plan"
+                )
+            }
             Unclear::Number(Number { name, given, range }) => write!(
                 f,
                 "{name} is '{given}', and has to be {range}, in digits with no zero in front"
@@ -138,6 +147,7 @@ fn unclear_of(words: &[Word]) -> Unclear<'_> {
 fn unclear_word(form: Form, rest: &[Word]) -> Unclear<'_> {
     match rest {
         [visits] => wrong_number("VISITS", visits, "1 to 5,000"),
+        [_, _, entries, _] if form.first == "history" => wrong_entries(entries),
         [_, _, day, _] => wrong_day(day),
         [_, _, desk, draft, _] => {
             if Name::new(desk.text().as_bytes()).is_none() {
@@ -173,6 +183,15 @@ fn wrong_day(day: &Word) -> Unclear<'_> {
         Unclear::Day(day.text())
     } else {
         wrong_number("DAY", day, DAYS)
+    }
+}
+
+// How many entries, as no number, or as more than the history has.
+fn wrong_entries(entries: &Word) -> Unclear<'_> {
+    if plain_number(entries.text().as_bytes(), 0, u32::MAX).is_some() {
+        Unclear::Entries(entries.text())
+    } else {
+        wrong_number("N", entries, "0 or a version of the plan")
     }
 }
 

@@ -23,6 +23,7 @@ use Rattle.apron_run.specs.Chart.{AtDay, IsChart}
 use Rattle.apron_run.specs.Desk.{AtDesk}
 use Rattle.apron_run.specs.End.{EndsUntouched, cut_status_of, line_of, status_of}
 use Rattle.apron_run.specs.Export.{IsSeason}
+use Rattle.apron_run.specs.History.{IsDigest}
 use Rattle.apron_run.specs.Import.{AtSeason, FindsSeason, HasSeasonCause, is_season_shelf_fault}
 use Rattle.apron_run.specs.Init.{AtInit}
 use Rattle.apron_run.specs.Journal.{NoJournal}
@@ -34,7 +35,7 @@ use Rattle.apron_run.specs.Run.{DoesAsked, KeptUnless, RunsAs}
 use Rattle.apron_run.specs.Statuses.{exit_code}
 use Rattle.apron_run.specs.TwoFiles.{WithFiles}
 use Rattle.apron_run.specs.Upgrade.{AtUpgrade}
-use Rattle.apron_run.specs.Words.{Subcommand, desk, init, check, chart, import, export, propose, upgrade, make, help, version, faulty, number_within, uses_disk, uses_shelf, uses_source}
+use Rattle.apron_run.specs.Words.{Subcommand, desk, init, check, chart, import, export, propose, history, upgrade, make, help, version, faulty, may_be_usage, number_within, uses_disk, uses_shelf, uses_source}
 use Rattle.apron_run.specs.World.{RunWorld}
 use Rattle.apron_run.specs.declared.end.End.{End}
 use Rattle.apron_run.specs.declared.end.End.TheVariants.{Printed, Served, Imported, Faulty, Memory as Wanting, Unusable as Unworkable, Unasked}
@@ -46,13 +47,6 @@ use Rattle.apron_run.specs.declared.unusable.Unusable.{Unusable}
 use Rattle.apron_run.specs.declared.unusable.Unusable.TheVariants.{Journal, Entries}
 use Rattle.apron_run.proofs.Ends.{sink_least, told_by}
 use Rattle.apron_run.proofs.Importing.{AsksFound, all_faults}
-
--- the program may end with the number of faulty words: if they are faulty, or if the plan has no
--- such day
-abbrev may_be_usage : Subcommand → Bool
-may_be_usage faulty = true
-may_be_usage (chart airport types day) = true
-may_be_usage asked = false
 
 module _ (asked : Subcommand) (before after : RunWorld) where
   -- what a status says: which end of the outside failed, which what is asked for uses; or that the
@@ -106,14 +100,17 @@ module _ (asked : Subcommand) (before after : RunWorld) where
     unworkable_says (Entries entries.Memory) none = (tt, tt)
     unworkable_says (Entries fault) none = (tt, tt)
 
-    plan_says : (Answers : AirportParts → List Entry → List ℕ → Type 0) (end : End) → AtPlan Answers made (record before { shelf = shelf }) after end → Says end
-    plan_says Answers (Printed text) at = let untouched = at.2.0 in (untouched.sink, tt)
-    plan_says Answers Wanting at = (tt, tt)
-    plan_says Answers (Unworkable why) at = unworkable_says why at
-    plan_says Answers end at = absurd at.2
+    plan_says : (Answers : AirportParts → List Entry → Option (List ℕ) → Type 0)
+        → ((opened : List Entry) → Answers made.airport opened None → may_be_usage asked ≡ true)
+        → (end : End) → AtPlan Answers made (record before { shelf = shelf }) after end → Says end
+    plan_says Answers may (Printed text) at = let untouched = at.2.0 in (untouched.sink, tt)
+    plan_says Answers may Unasked at = (tt, may at.0 at.2.1)
+    plan_says Answers may Wanting at = (tt, tt)
+    plan_says Answers may (Unworkable why) at = unworkable_says why at
+    plan_says Answers may end at = absurd at.2
 
     day_says : may_be_usage asked ≡ true → (day : Option ℕ) (end : End) → AtDay made day (record before { shelf = shelf }) after end → Says end
-    day_says may (Some day) end at = plan_says (IsChart day) end at
+    day_says may (Some day) end at = plan_says (IsChart day) (λ opened none. may) end at
     day_says may None end at = unasked_says shelf end may at
 
     init_says : (end : End) → AtInit made (record before { shelf = shelf }) after end → Says end
@@ -195,11 +192,13 @@ does_say feeds (chart airport types day) before after end = files_say (chart air
 does_say feeds (import airport types season) before after end = files_say (import airport types season) before after (AtSeason season) end refl
     (λ files shelf same at. season_says (import airport types season) before after files shelf refl refl same season end at)
 does_say feeds (export airport types) before after end = files_say (export airport types) before after (AtPlan IsSeason) end refl
-    (λ files shelf same at. plan_says (export airport types) before after files shelf refl IsSeason end at)
+    (λ files shelf same at. plan_says (export airport types) before after files shelf refl IsSeason (λ opened none. absurd cc) end at)
 does_say feeds (upgrade airport types) before after end =
     files_say (upgrade airport types) before after AtUpgrade end refl (λ files shelf same at. upgrade_says (upgrade airport types) before after files shelf refl end at)
 does_say feeds (propose airport types name draft) before after end = files_say (propose airport types name draft) before after (AtPlan (IsProposed name draft)) end refl
-    (λ files shelf same at. plan_says (propose airport types name draft) before after files shelf refl (IsProposed name draft) end at)
+    (λ files shelf same at. plan_says (propose airport types name draft) before after files shelf refl (IsProposed name draft) (λ opened none. absurd none) end at)
+does_say feeds (history airport types entries) before after end = files_say (history airport types entries) before after (AtPlan (IsDigest entries)) end refl
+    (λ files shelf same at. plan_says (history airport types entries) before after files shelf refl (IsDigest entries) (λ opened none. refl) end at)
 does_say feeds (make visits) before after end = make_says visits before after end
 does_say feeds help before after end = printed_says help before after help_text before.shelf end
 does_say feeds version before after end = printed_says version before after version_text before.shelf end
@@ -232,12 +231,6 @@ disk_once other is = absurd (omega arith)
 usage_once : (status : Status) → exit_code status ≡ exit_code Usage → status ≡ Usage
 usage_once Usage is = refl
 usage_once other is = absurd (omega arith)
-
--- the words for which a run may end with the number of faulty ones
-usage_asked : (asked : Subcommand) → may_be_usage asked ≡ true → (asked ≡ faulty) ⊎ ((airport types day : List ℕ) × (asked ≡ chart airport types day))
-usage_asked (chart airport types day) may = inr (airport, types, day, refl)
-usage_asked faulty may = inl refl
-usage_asked asked may = absurd cc
 
 pub kept_by : {E : Type 0} (used : Bool) (old new : E) → (used ≡ false → new ≡ old) → KeptUnless used old new
 kept_by true old new same = tt
@@ -305,7 +298,7 @@ module _ (feeds : FeedTexts) (asked : Subcommand) (before after : RunWorld) (cod
         let (used, rose) = blamed DiskFault disk_once (λ same. absurd (omega arith)) is in (subst (λ (n : ℕ). uses_disk asked n ≡ true) (sym is) used, rose);
   }
 
-  -- faulty words have their number, and it comes from them, or from the chart of a day
+  -- faulty words have their number, and it comes from them, or from what a plan may not have
   pub usage : asked ≡ faulty → code ≡ exit_code Usage
   usage none = by_ran ran
     where
@@ -316,8 +309,8 @@ module _ (feeds : FeedTexts) (asked : Subcommand) (before after : RunWorld) (cod
       by_ran (inl same) = same ∙ ap (λ (e : End). exit_code (status_of e)) is
       by_ran (inr (cut, done, rose)) = let both : Usage ≡ Done = sym (ap status_of is) ∙ done in absurd cc
 
-  pub usage_alone : code ≡ exit_code Usage → (asked ≡ faulty) ⊎ ((airport types day : List ℕ) × (asked ≡ chart airport types day))
-  usage_alone is = usage_asked asked (blamed Usage usage_once (λ same. absurd (omega arith)) is)
+  pub usage_alone : code ≡ exit_code Usage → may_be_usage asked ≡ true
+  usage_alone is = blamed Usage usage_once (λ same. absurd (omega arith)) is
 
   -- what isn't used, if the end's status says so, stays as it was if the number says so
   pub kept : {E : Type 0} (uses : ℕ → Bool) (old new : E) → uses (exit_code Done) ≡ uses (exit_code WriteFault) → (uses (exit_code (status_of runs.end)) ≡ false → new ≡ old)

@@ -31,7 +31,7 @@ use Rattle.apron_run.specs.PlanText.{AtPlan}
 use Rattle.apron_run.specs.TwoFiles.{WithFiles}
 use Rattle.apron_run.specs.World.{RunWorld, World}
 use Rattle.apron_run.specs.declared.end.End.{End}
-use Rattle.apron_run.specs.declared.end.End.TheVariants.{Printed, Imported as Ended, Faulty, Memory as Wanting, Unusable as Unworkable}
+use Rattle.apron_run.specs.declared.end.End.TheVariants.{Printed, Imported as Ended, Faulty, Memory as Wanting, Unusable as Unworkable, Unasked}
 use Rattle.apron_run.specs.declared.imported.Imported.{Imported}
 use Rattle.apron_run.specs.declared.imported.Imported.TheVariants as how
 use Rattle.apron_run.specs.declared.status.Status.{Status}
@@ -96,15 +96,19 @@ init_well made before after end empty disk at = absurd at
 
 -- a text is made of a journal
 module _ (made : AirportFiles) (history : List Entry) (before after : RunWorld) (has : HasJournal made before.disk history) (disk : ¬ (Rose before.disk.faults after.disk.faults)) where
-  pub plan_well : (Answers : AirportParts → List Entry → List ℕ → Type 0) (end : End) → AtPlan Answers made before after end → Well (status_of end)
-  plan_well Answers (Printed text) at = inl refl
-  plan_well Answers Wanting at = inr refl
-  plan_well Answers (Unworkable why) at = inr (unopened_wants made before.disk after.disk history has why at.uses disk)
-  plan_well Answers end at = absurd at.2
+  pub plan_well : (Answers : AirportParts → List Entry → Option (List ℕ) → Type 0) → (Answers made.airport history None → ⊥) → (end : End) → AtPlan Answers made before after end
+      → Well (status_of end)
+  plan_well Answers answered (Printed text) at = inl refl
+  plan_well Answers answered Unasked at =
+      let same : at.0 ≡ history = opened_once made before.disk after.disk history has at.0 at.1 in
+      absurd (answered (subst (λ (opened : List Entry). Answers made.airport opened None) same at.2.1))
+  plan_well Answers answered Wanting at = inr refl
+  plan_well Answers answered (Unworkable why) at = inr (unopened_wants made before.disk after.disk history has why at.uses disk)
+  plan_well Answers answered end at = absurd at.2
 
   pub day_well : (day : Option ℕ) (end : End) → IsSome day → AtDay made day before after end → Well (status_of end)
   day_well None end some at = absurd cc
-  day_well (Some day) end some at = plan_well (IsChart day) end at
+  day_well (Some day) end some at = plan_well (IsChart day) (λ none. cc) end at
 
 -- a plan takes a visit that it meets in one way
 module _ (plan : PlanState) (count : ℕ) (new : NewVisit) where

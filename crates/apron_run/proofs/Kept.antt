@@ -1,5 +1,5 @@
 -- What stays as it was, by the number of an end's status.
-use Rattle.std.proofs.Common.{◌≡◌, ℕ, Bool, true, false, List, Err, refl}
+use Rattle.std.proofs.Common.{◌≡◌, ℕ, Bool, true, false, List, Option, None, Err, refl}
 use Rattle.apron_base.specs.Shelf.{ShelfState}
 use Rattle.apron_base.specs.declared.outside.Outcome.TheVariants as came
 use Rattle.apron_rules.specs.declared.parts.AirportParts.{AirportParts}
@@ -24,9 +24,9 @@ use Rattle.apron_run.specs.Words.{Subcommand, desk, init, import, upgrade, help,
 use Rattle.apron_run.specs.WordsShown.{subcommand_at}
 use Rattle.apron_run.specs.World.{RunWorld, Untouched, World}
 use Rattle.apron_run.specs.declared.end.End.{End}
-use Rattle.apron_run.specs.declared.end.End.TheVariants.{Printed, Served, Imported, Faulty, Memory as Wanting, Unusable as Unworkable}
+use Rattle.apron_run.specs.declared.end.End.TheVariants.{Printed, Served, Imported, Faulty, Memory as Wanting, Unusable as Unworkable, Unasked}
 use Rattle.apron_run.specs.declared.imported.Imported.TheVariants as imports
-use Rattle.apron_run.specs.declared.status.Status.TheVariants.{Done, WriteFault, DiskFault, JournalFault, Memory}
+use Rattle.apron_run.specs.declared.status.Status.TheVariants.{Done, Usage, WriteFault, DiskFault, JournalFault, Memory}
 use Rattle.apron_run.specs.declared.unusable.Unusable.{Unusable}
 use Rattle.apron_run.specs.declared.unusable.Unusable.TheVariants.{Journal, Entries}
 use Rattle.apron_run.specs.declared.words.Asked.{Asked}
@@ -70,12 +70,14 @@ module _ (uses : ℕ → Bool) (failed : uses (exit_code DiskFault) ≡ true) (n
   unworkable_used before after (Entries entries.Memory) cause = wanting
   unworkable_used before after (Entries fault) cause = none
 
-  pub plan_used : uses (exit_code Done) ≡ true → (Answers : AirportParts → List Entry → List ℕ → Type 0) (before after : RunWorld) (end : End) → AtPlan Answers made before after end
+  pub plan_used : uses (exit_code Done) ≡ true → (Answers : AirportParts → List Entry → Option (List ℕ) → Type 0)
+      → ((opened : List Entry) → Answers made.airport opened None → uses (exit_code Usage) ≡ true) → (before after : RunWorld) (end : End) → AtPlan Answers made before after end
       → uses (exit_code (status_of end)) ≡ true
-  plan_used all Answers before after (Printed text) at = all
-  plan_used all Answers before after Wanting at = wanting
-  plan_used all Answers before after (Unworkable why) at = unworkable_used before.disk after.disk why (let not = at.uses in not.cause)
-  plan_used all Answers before after end at = absurd at.2
+  plan_used all Answers lacks before after (Printed text) at = all
+  plan_used all Answers lacks before after Unasked at = lacks at.0 at.2.1
+  plan_used all Answers lacks before after Wanting at = wanting
+  plan_used all Answers lacks before after (Unworkable why) at = unworkable_used before.disk after.disk why (let not = at.uses in not.cause)
+  plan_used all Answers lacks before after end at = absurd at.2
 
 module _ (airport types : List ℕ) (made : AirportFiles) (before after : RunWorld) where
   -- a session takes the source, unless there is no journal to work on

@@ -12,8 +12,8 @@ use Rattle.apron_run.specs.declared.end.End.{End}
 use Rattle.apron_run.specs.declared.end.End.TheVariants as ended
 
 -- the wall chart of a day, of the plan that the history makes
-abbrev pub IsChart : ℕ → AirportParts → List Entry → List ℕ → Type 0
-IsChart day airport history text = text ≡ chart_text airport (replay airport history) day
+abbrev pub IsChart : ℕ → AirportParts → List Entry → Option (List ℕ) → Type 0
+IsChart day airport history text = text ≡ Some (chart_text airport (replay airport history) day)
 
 -- what the word does at these files: the chart of a day of the plan in their journal is printed, if
 -- there is such a day

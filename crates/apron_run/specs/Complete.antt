@@ -18,11 +18,12 @@ use Rattle.apron_check.specs.Files.{Make}
 use Rattle.apron_check.specs.declared.files.AirportFiles.{AirportFiles}
 use Rattle.apron_run.specs.Asking.{MeetsAll}
 use Rattle.apron_run.specs.Opened.{Reached, opened_board}
+use Rattle.apron_run.specs.History.{entries_asked}
 use Rattle.apron_run.specs.Import.{Tells}
 use Rattle.apron_run.specs.Journal.{OpensTo}
 use Rattle.apron_run.specs.Statuses.{exit_code}
 use Rattle.apron_run.specs.Upgrade.{CanUpgrade}
-use Rattle.apron_run.specs.Words.{Subcommand, desk, init, check, chart, import, export, propose, upgrade, make, help, version, faulty, number_within}
+use Rattle.apron_run.specs.Words.{Subcommand, desk, init, check, chart, import, export, propose, history, upgrade, make, help, version, faulty, number_within}
 use Rattle.apron_run.specs.World.{RunWorld, World}
 use Rattle.apron_run.specs.declared.status.Status.TheVariants.{Done, Memory}
 
@@ -90,6 +91,8 @@ CanBeRun (upgrade airport types) world =
     OnFiles world.shelf airport types (λ files. CanUpgrade files world.disk)
 CanBeRun (propose airport types name draft) world =
     OnJournal world.shelf world.disk airport types (λ _ _. Unit {0})
+CanBeRun (history airport types entries) world = OnJournal world.shelf world.disk airport types
+    (λ files opened. entries_asked entries opened ≤ length opened)
 CanBeRun (make visits) world = Unit {0}
 CanBeRun help world = Unit {0}
 CanBeRun version world = Unit {0}

@@ -18,6 +18,7 @@ pub mod Asking
 pub mod Import
 pub mod SecondImport
 pub mod Export
+pub mod History
 pub mod Propose
 pub mod Make
 pub mod Converting

@@ -16,7 +16,7 @@ Writes text whole cut before after status =
 -- what the word `--help` prints
 unfoldable pub help_text : List ℕ
 help_text =
-    codes "apron: airport stand allocation\n\napron init AIRPORT TYPES JOURNAL   makes an empty journal for the airport of an airport file and a\n                                   type file\napron desk AIRPORT TYPES JOURNAL   answers HTTP requests from standard input on standard output at\n                                   that airport, and keeps in its journal what it accepts\napron serve AIRPORT TYPES CONNECTIONS ADDRESS WORKERS JOURNAL\n                                   does the same over TCP for many desks at once: 1 to 16 workers\n                                   take 1 to 1,000,000 connections each, one after the other\napron serve AIRPORT TYPES CONNECTIONS screen DAY ADDRESS WORKERS SCREENADDRESS SCREENS JOURNAL\n                                   does the same, and shows the wall chart of a day on 1 to 8 screens\n                                   at an address of their own\napron chart AIRPORT TYPES DAY JOURNAL\n                                   prints the wall chart of a day of the plan in that journal\napron import AIRPORT TYPES SEASON JOURNAL\n                                   adds the visits of a season file to the plan in that journal\napron export AIRPORT TYPES JOURNAL prints the season file of the visits in that journal\napron propose AIRPORT TYPES DESK DRAFT JOURNAL\n                                   prints a draft that puts parts without a stand on the first stands\n                                   that take them, or why none does\napron upgrade AIRPORT TYPES JOURNAL\n                                   makes a journal of format 1 one of format 2\napron check AIRPORT TYPES          reads an airport file and a type file, and prints how much they\n                                   hold, or the first fault in them\napron make VISITS                  prints the summary of a generated day of 1 to 5,000 visits\napron --help                       prints this text\napron --version                    prints the version\n"
+    codes "apron: airport stand allocation\n\napron init AIRPORT TYPES JOURNAL   makes an empty journal for the airport of an airport file and a\n                                   type file\napron desk AIRPORT TYPES JOURNAL   answers HTTP requests from standard input on standard output at\n                                   that airport, and keeps in its journal what it accepts\napron serve AIRPORT TYPES CONNECTIONS ADDRESS WORKERS JOURNAL\n                                   does the same over TCP for many desks at once: 1 to 16 workers\n                                   take 1 to 1,000,000 connections each, one after the other\napron serve AIRPORT TYPES CONNECTIONS screen DAY ADDRESS WORKERS SCREENADDRESS SCREENS JOURNAL\n                                   does the same, and shows the wall chart of a day on 1 to 8 screens\n                                   at an address of their own\napron chart AIRPORT TYPES DAY JOURNAL\n                                   prints the wall chart of a day of the plan in that journal\napron import AIRPORT TYPES SEASON JOURNAL\n                                   adds the visits of a season file to the plan in that journal\napron export AIRPORT TYPES JOURNAL prints the season file of the visits in that journal\napron propose AIRPORT TYPES DESK DRAFT JOURNAL\n                                   prints a draft that puts parts without a stand on the first stands\n                                   that take them, or why none does\napron upgrade AIRPORT TYPES JOURNAL\n                                   makes a journal of format 1 one of format 2\napron history AIRPORT TYPES JOURNAL\n                                   prints the version and the digest of the history in that journal\napron history AIRPORT TYPES N JOURNAL\n                                   prints those of its first N entries\napron check AIRPORT TYPES          reads an airport file and a type file, and prints how much they\n                                   hold, or the first fault in them\napron make VISITS                  prints the summary of a generated day of 1 to 5,000 visits\napron --help                       prints this text\napron --version                    prints the version\n"
 
 -- what the word `--version` prints
 unfoldable pub version_text : List ℕ

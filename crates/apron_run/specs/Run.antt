@@ -2,13 +2,14 @@
 use Rattle.std.specs.Prelude.{◌≡◌, ℕ, Bool, true, false}
 use Rattle.desk_workers.specs.Watched.{FeedTexts}
 use Rattle.apron_check.specs.Lines.{counts_line}
-use Rattle.apron_run.specs.Words.{Subcommand, desk, init, check, chart, import, export, propose, upgrade, make, help, version, faulty, number_within}
+use Rattle.apron_run.specs.Words.{Subcommand, desk, init, check, chart, import, export, propose, history, upgrade, make, help, version, faulty, number_within}
 use Rattle.apron_run.specs.End.{EndsAs, EndsUntouched}
 use Rattle.apron_run.specs.World.{RunWorld}
 use Rattle.apron_run.specs.Desk.{AtDesk}
 use Rattle.apron_run.specs.Init.{AtInit}
 use Rattle.apron_run.specs.Chart.{AtDay}
 use Rattle.apron_run.specs.Export.{IsSeason}
+use Rattle.apron_run.specs.History.{IsDigest}
 use Rattle.apron_run.specs.Import.{AtSeason}
 use Rattle.apron_run.specs.Make.{AtMake}
 use Rattle.apron_run.specs.PlanText.{AtPlan}
@@ -34,6 +35,7 @@ module _ (feeds : FeedTexts) where
   DoesAsked (export airport types) = WithFiles (AtPlan IsSeason) airport types
   DoesAsked (upgrade airport types) = WithFiles AtUpgrade airport types
   DoesAsked (propose airport types name draft) = WithFiles (AtPlan (IsProposed name draft)) airport types
+  DoesAsked (history airport types entries) = WithFiles (AtPlan (IsDigest entries)) airport types
   DoesAsked (make visits) = AtMake visits
   DoesAsked help = EndsUntouched (ended.Printed help_text)
   DoesAsked version = EndsUntouched (ended.Printed version_text)

@@ -58,16 +58,17 @@ unfoldable pub value_of : List ℕ → ℕ
 value_of digits = unwrap_or (number_of digits most_digits) 0
 
 -- what words ask for: of an airport, whose airport file and type file come first, with a day's
--- digits, a season file's name, or the name of a desk and the number of its draft; how many visits
--- to generate; a text; or nothing known
+-- digits, a season file's name, the name of a desk and the number of its draft, or how many entries
+-- of the history if it is said; how many visits to generate; a text; or nothing known
 pub data Subcommand : Type 0 where
   init desk check export upgrade : List ℕ → List ℕ → Subcommand
   chart import : List ℕ → List ℕ → List ℕ → Subcommand
   propose : List ℕ → List ℕ → List ℕ → ℕ → Subcommand
+  history : List ℕ → List ℕ → Option ℕ → Subcommand
   make : ℕ → Subcommand
   help version faulty : Subcommand
 
--- the forms of the command line; the number of a draft has 32 bits
+-- the forms of the command line; the number of a draft has 32 bits, and how many entries has
 abbrev pub forms : List (Form Subcommand)
 forms =
     (codes "init", is_file ∷ is_file ∷ [], init)
@@ -81,6 +82,12 @@ forms =
       λ airport types name draft. propose airport types name (value_of draft),
     )
     ∷ (codes "upgrade", is_file ∷ is_file ∷ [], upgrade)
+    ∷ (codes "history", is_file ∷ is_file ∷ [], λ airport types. history airport types None)
+    ∷ (
+      codes "history",
+      is_file ∷ is_file ∷ is_number 0 4294967295 ∷ [],
+      λ airport types entries. history airport types (Some (value_of entries)),
+    )
     ∷ (codes "check", is_file ∷ is_file ∷ [], check)
     ∷ (codes "make", is_number 1 most_made ∷ [], λ visits. make (value_of visits))
     ∷ (codes "--help", [], help)
@@ -89,6 +96,14 @@ forms =
 -- what the words ask for: what the first form that they fit says
 unfoldable pub subcommand_of : List (List ℕ) → Subcommand
 subcommand_of words = unwrap_or (asked_by forms words) faulty
+
+-- whether the program may end as with faulty words: if they are, or if the plan may not have what
+-- they ask for, a day or so many entries
+abbrev pub may_be_usage : Subcommand → Bool
+may_be_usage faulty = true
+may_be_usage (chart airport types day) = true
+may_be_usage (history airport types entries) = true
+may_be_usage asked = false
 
 -- the program ends with this number since two files give no airport, or the shelf none of them
 abbrev pub ends_at_files : ℕ → Bool

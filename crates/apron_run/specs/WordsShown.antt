@@ -5,7 +5,7 @@ use Rattle.apron_run.specs.declared.words.Asked.{Asked}
 use Rattle.apron_run.specs.declared.words.Asked.TheVariants as asked
 use Rattle.apron_run.specs.declared.words.Subcommand.{Subcommand as Read}
 use Rattle.apron_run.specs.declared.words.Subcommand.TheVariants as read
-use Rattle.apron_run.specs.Words.{Subcommand, desk, init, check, chart, import, export, propose, upgrade, make, help, version, faulty}
+use Rattle.apron_run.specs.Words.{Subcommand, desk, init, check, chart, import, export, propose, history, upgrade, make, help, version, faulty}
 
 -- what is asked for at the airport of the files of these names
 abbrev pub subcommand_at : List ℕ → List ℕ → Asked → Subcommand
@@ -17,6 +17,7 @@ subcommand_at airport types (asked.Import season) = import airport types season.
 subcommand_at airport types asked.Export = export airport types
 subcommand_at airport types asked.Upgrade = upgrade airport types
 subcommand_at airport types (asked.Propose name draft) = propose airport types name draft
+subcommand_at airport types (asked.History entries) = history airport types entries
 
 -- what the words ask for, with the names in place of the words
 abbrev pub subcommand_shown : Read → Subcommand

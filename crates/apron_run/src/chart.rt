@@ -25,7 +25,7 @@ impl PlanText for DayChart {
         alloc: Global,
         airport: &Airport,
         board: &Board<'_, K>,
-    ) -> Result<Listed<u8>, Memory> {
-        draw_chart(alloc, airport, board.plan(), self.day)
+    ) -> Result<Option<Listed<u8>>, Memory> {
+        Ok(Some(draw_chart(alloc, airport, board.plan(), self.day)?))
     }
 }

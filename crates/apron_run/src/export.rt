@@ -22,7 +22,7 @@ impl PlanText for Season {
         alloc: Global,
         airport: &Airport,
         board: &Board<'_, K>,
-    ) -> Result<Listed<u8>, Memory> {
-        write_season(alloc, airport, board.plan().visits())
+    ) -> Result<Option<Listed<u8>>, Memory> {
+        Ok(Some(write_season(alloc, airport, board.plan().visits())?))
     }
 }

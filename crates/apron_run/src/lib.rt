@@ -10,6 +10,7 @@ mod desk;
 mod end;
 mod export;
 mod files_journal;
+mod history;
 mod import;
 mod imported;
 mod init;

@@ -19,9 +19,9 @@ use journal_disk::Disk;
 use std::alloc::Global;
 use std::marker::{Brand, PhantomData};
 
-/// What is asked of a plan and answered by a text.
+/// What is asked of a plan and answered by a text, if there is an answer.
 pub(crate) trait PlanText {
-    ghost use Rattle.std.specs.Prelude.{ℕ, List, IfOk};
+    ghost use Rattle.std.specs.Prelude.{ℕ, List, Option, IfOk};
     ghost use Rattle.apron_rules.specs.declared.parts.AirportParts.{AirportParts};
     ghost use Rattle.desk_asks.specs.declared.asks.Entry.{Entry};
     ghost use Rattle.history_core.specs.History.{IsLegal};
@@ -29,16 +29,16 @@ pub(crate) trait PlanText {
     /// Whether it can be asked at an airport.
     ghost fits: { Self → AirportParts → Type 0 };
 
-    /// The texts that answer it, by the airport and the history.
-    ghost answers: { Self → AirportParts → List Entry → List ℕ → Type 0 };
+    /// The texts that answer it, or that there is none, by the airport and the history.
+    ghost answers: { Self → AirportParts → List Entry → Option (List ℕ) → Type 0 };
 
-    /// The answer of the board's plan. The only error is a lack of memory.
+    /// The answer of the board's plan, if there is one. The only error is a lack of memory.
     fn text<K: Keeper>(
         &self,
         alloc: Global,
         airport: &Airport,
         board: &Board<'_, K>,
-    ) -> Result<Listed<u8>, Memory>
+    ) -> Result<Option<Listed<u8>>, Memory>
         requires airport { airport.now ≡ board.now.airport }
         requires legal { IsLegal airport.now board.now.history }
         requires fits { fits self.now airport.now }
@@ -108,7 +108,8 @@ fn text_of_board<N: OfFiles, T: PlanText, D: Disk>(
     let made = asked.text(alloc, &files.airport, &board);
     let disk = close_board(board);
     match made {
-        Ok(text) => (End::Printed(Text(Kind::Made(text))), disk),
+        Ok(Some(text)) => (End::Printed(Text(Kind::Made(text))), disk),
+        Ok(None) => (End::Unasked, disk),
         Err(Memory) => (End::Memory, disk),
     }
 }

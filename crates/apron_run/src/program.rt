@@ -1,5 +1,5 @@
 // What the program does with all words but `serve`.
-ghost use Rattle.std.specs.Prelude.{◌≡◌, ◌⊎◌, ℕ, List, [], Ok, false};
+ghost use Rattle.std.specs.Prelude.{◌≡◌, ℕ, List, [], Ok, false, true};
 ghost use Rattle.apron_base.specs.Shelf.{ShelfState};
 ghost use Rattle.apron_check.specs.Files.{FindsFiles};
 ghost use Rattle.desk_workers.specs.Watched.{feed_texts};
@@ -9,7 +9,7 @@ ghost use Rattle.apron_run.specs.Complete.{IsRunComplete};
 ghost use Rattle.apron_run.specs.End.{status_of};
 ghost use Rattle.apron_run.specs.Run.{DoesAsked, KeptUnless, RunsAs};
 ghost use Rattle.apron_run.specs.Statuses.{exit_code};
-ghost use Rattle.apron_run.specs.Words.{chart as chart_word, faulty, subcommand_of, uses_disk, uses_shelf, uses_source};
+ghost use Rattle.apron_run.specs.Words.{faulty, may_be_usage, subcommand_of, uses_disk, uses_shelf, uses_source};
 ghost use Rattle.apron_run.specs.WordsShown.{subcommand_at};
 ghost use Rattle.apron_run.specs.World.{run_world};
 
@@ -17,6 +17,7 @@ use crate::chart::DayChart;
 use crate::desk::serve_desk;
 use crate::end::tell_end;
 use crate::export::Season;
+use crate::history::HistoryDigest;
 use crate::import::import_season;
 use crate::init::make_journal;
 use crate::make::day_line;
@@ -47,14 +48,16 @@ use watch_list::{NoteTest, Shown, Stated, Watches};
 /// `propose A T DESK DRAFT` opens it and prints a first-fit draft for the parts that are on no
 /// stand, or the line `draft used` if the history has a commit of this desk's draft of this number,
 /// 0 to 4,294,967,295. `upgrade A T` makes a journal of format 1 one of format 2, with the same
-/// entries, and prints how many there are; all other words need format 2. `make N` prints the
+/// entries, and prints how many there are; all other words need format 2. `history A T N` opens it
+/// as `export` does, and prints the version N and the digest of the first N entries; without N, of
+/// all. `make N` prints the
 /// summary of a generated day of `N` visits, 1 to 5,000. `--help` and `--version` print their text.
 /// Other words print the line `usage`.
 ///
 /// | Status | Comes if |
 /// |---|---|
 /// | 0 | all was done; the source of a session ended after whole requests, or a request closed it |
-/// | 2 | the words ask for nothing known, or for the chart of a day that the plan does not have |
+/// | 2 | the words ask for nothing known, for the chart of a day that the plan does not have, or for the digest of more entries than there are |
 /// | 3 | a file has a fault, which is printed, or is over 1 MiB |
 /// | 4, 5, 6 | the shelf, the source, the sink failed |
 /// | 7 | the disk failed before a journal was open, or at an entry of an import, which is printed |
@@ -92,8 +95,7 @@ pub fn run_with<F: Shelf, S: Source, W: Sink, D: Disk, R: Stated, T: NoteTest>(
         result }
     ensures usage { subcommand_of words.now ≡ faulty → result ≡ exit_code Status.Usage }
     ensures usage_alone { result ≡ exit_code Status.Usage
-        → (subcommand_of words.now ≡ faulty) ⊎ ((airport types day : List ℕ)
-        × (subcommand_of words.now ≡ chart_word airport types day)) }
+        → may_be_usage (subcommand_of words.now) ≡ true }
     ensures shelf_kept { KeptUnless (uses_shelf (subcommand_of words.now)) shelf.old shelf.new }
     ensures source_kept { KeptUnless (uses_source (subcommand_of words.now) result)
         source.old source.new }
@@ -126,8 +128,7 @@ pub fn run<F: Shelf, S: Source, W: Sink, D: Disk>(
         result }
     ensures usage { subcommand_of words.now ≡ faulty → result ≡ exit_code Status.Usage }
     ensures usage_alone { result ≡ exit_code Status.Usage
-        → (subcommand_of words.now ≡ faulty) ⊎ ((airport types day : List ℕ)
-        × (subcommand_of words.now ≡ chart_word airport types day)) }
+        → may_be_usage (subcommand_of words.now) ≡ true }
     ensures shelf_kept { KeptUnless (uses_shelf (subcommand_of words.now)) shelf.old shelf.new }
     ensures source_kept { KeptUnless (uses_source (subcommand_of words.now) result)
         source.old source.new }
@@ -214,5 +215,6 @@ fn run_at<F: Shelf, S: Source, W: Sink, D: Disk, R: Stated, T: NoteTest>(
             text_of_journal(alloc, &files, &DraftProposal { desk, draft }, disk)
         }
         Asked::Upgrade => upgrade_journal(alloc, &files, disk),
+        Asked::History(entries) => text_of_journal(alloc, &files, &HistoryDigest { entries }, disk),
     }
 }

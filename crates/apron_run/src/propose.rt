@@ -26,7 +26,7 @@ impl PlanText for DraftProposal {
         alloc: Global,
         airport: &Airport,
         board: &Board<'_, K>,
-    ) -> Result<Listed<u8>, Memory> {
-        draft_text(alloc, airport, board.plan(), &self.desk, self.draft)
+    ) -> Result<Option<Listed<u8>>, Memory> {
+        Ok(Some(draft_text(alloc, airport, board.plan(), &self.desk, self.draft)?))
     }
 }

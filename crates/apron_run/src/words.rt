@@ -44,6 +44,8 @@ pub(crate) enum Asked<'w> {
     Propose(Name, u32),
     /// The journal in format 2.
     Upgrade,
+    /// The digest of the first entries of the history in the journal, this many, or of all.
+    History(Option<u32>),
 }
 
 /// What the words ask for. A function for each number of words looks at the forms of that length,
@@ -111,6 +113,8 @@ fn asked_of_files<'w>(word: &str, airport: &'w str, types: &'w str) -> Subcomman
         Subcommand::AtFiles(airport, types, Asked::Export)
     } else if word == "upgrade" {
         Subcommand::AtFiles(airport, types, Asked::Upgrade)
+    } else if word == "history" {
+        Subcommand::AtFiles(airport, types, Asked::History(None))
     } else if word == "check" {
         Subcommand::AtFiles(airport, types, Asked::Check)
     } else {
@@ -127,6 +131,11 @@ fn asked_of_more<'w>(word: &str, airport: &'w str, types: &'w str, more: &'w Wor
         Subcommand::AtFiles(airport, types, Asked::Import(more))
     } else if word == "chart" && is_plain_number(more.text().as_bytes()) {
         Subcommand::AtFiles(airport, types, Asked::Chart(more.text()))
+    } else if word == "history" {
+        match plain_number(more.text().as_bytes(), 0, u32::MAX) {
+            Some(entries) => { Subcommand::AtFiles(airport, types, Asked::History(Some(entries))) }
+            None => Subcommand::Faulty,
+        }
     } else {
         Subcommand::Faulty
     }

@@ -116,6 +116,8 @@ pub enum What {
     Airport,
     /// The visits that hold a stand or wait for one on this day, counted from 1.
     Day(u32),
+    /// The digest of the history's first entries, this many.
+    History(u32),
 }
 
 /// What a desk asks with one request.
@@ -142,6 +144,7 @@ impl Ask {
             What::Entry(number) => What::Entry(*number),
             What::Airport => What::Airport,
             What::Day(day) => What::Day(*day),
+            What::History(entries) => What::History(*entries),
         };
         Ok(Ask {
             seen: self.seen,

@@ -11,10 +11,10 @@ use Rattle.std.proofs.lemmas.List.{take-append-drop}
 use Rattle.std.proofs.lemmas.Slice.Eq.{bytes_eq-Decides}
 use Rattle.matchit.specs.Seek.{has_slash}
 use Rattle.desk_bodies.specs.Commits.{if_name}
-use Rattle.desk_http.specs.FeedTargets.{feed_named, feed_of, feed_of_pieces, version_written}
-use Rattle.desk_http.specs.Targets.{pieces, plain_number, slash}
+use Rattle.desk_http.specs.FeedTargets.{feed_named, feed_of, feed_of_pieces}
+use Rattle.desk_http.specs.Targets.{pieces, slash, version_written}
 use Rattle.desk_http.specs.declared.port.Feed.{Feed}
-use Rattle.desk_http.proofs.Pieces.{IsSome, first_slash, joined, joined-pieces, no_slash, one_piece, pieces-some, plain_number-digits}
+use Rattle.desk_http.proofs.Pieces.{IsSome, first_slash, joined, joined-pieces, no_slash, one_piece, pieces-some, version-digits}
 use Rattle.desk_http.proofs.Takes.{by}
 
 -- ---- a version has no slash
@@ -28,10 +28,7 @@ digits-cut (byte ∷ text) e =
     rw other (digits-cut text parts.1)
 
 version-cut : (text : List ℕ) (n : ℕ) → version_written text ≡ Some n → pieces text ≡ text ∷ []
-version-cut text n e =
-    by (λ v. cond v (Some 0) (plain_number text) ≡ Some n → pieces text ≡ text ∷ []) (bytes_eq text (codes "0"))
-    (λ zero _. subst (λ t. pieces t ≡ t ∷ []) (sym ((bytes_eq-Decides text (codes "0")).0 zero)) refl)
-    (λ _ e. one_piece text (digits-cut text (plain_number-digits text n e))) e
+version-cut text n e = one_piece text (digits-cut text (version-digits text n e))
 
 -- ---- the feed of a target
 

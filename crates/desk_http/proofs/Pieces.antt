@@ -1,5 +1,5 @@
 -- The route of a target by its pieces, and by the row whose pattern takes it.
-use Rattle.std.proofs.Common.{◌≡◌, ◌∙◌, ◌+◌, ◌==◌, ◌&&◌, not, inl, inr, ℕ, ◌<◌, suc, true, false, true≢false, cond, Bool, List, [], ◌∷◌, ◌++◌, append-nil, append_assoc, bytes_eq, map, take, drop, Option, Some, None, refl, sym, ap, ap₂, subst, arith}
+use Rattle.std.proofs.Common.{◌≡◌, ◌∙◌, ◌+◌, ◌==◌, ◌&&◌, not, inl, inr, ℕ, ◌<◌, suc, true, false, true≢false, cond, Bool, List, [], ◌∷◌, ◌++◌, append-nil, append_assoc, bytes_eq, codes, map, take, drop, Option, Some, None, refl, sym, ap, ap₂, subst, arith}
 use Rattle.std.specs.Prelude.{position}
 use Rattle.std.specs.Option.{option_and_then, option_map, option_map_or}
 use Rattle.std.specs.Char.{is_ascii_digit}
@@ -16,7 +16,7 @@ use Rattle.matchit.specs.Seek.{has_slash}
 use Rattle.apron_base.specs.Digits.{are_digits, most_digits, number_of}
 use Rattle.desk_http.specs.Numbers.{within_32_bits}
 use Rattle.desk_http.specs.Table.{text_after_word}
-use Rattle.desk_http.specs.Targets.{Parameter, look_up, numbered, onto_first, pieces, plain_number, route_of, route_of_pieces, route_with, routes_of_words, routes_with_text, slash, zero_digit}
+use Rattle.desk_http.specs.Targets.{Parameter, look_up, numbered, onto_first, pieces, plain_number, route_of, route_of_pieces, route_with, routes_of_words, routes_with_text, slash, version_written, versioned, zero_digit}
 use Rattle.desk_http.specs.declared.targets.Route.{Route}
 use Rattle.desk_http.proofs.Rows.{In-left, In-map, In-right, IsOn, IsOnRow, Row, end_of, front_ascii, is_ascii, rows, same_in, text_row, word_row}
 use Rattle.desk_http.proofs.Takes.{In, by, takes, takes_on, takes_on-nil}
@@ -243,7 +243,7 @@ number-digits text n e =
     by (λ v. are_digits text most_digits ≡ v → cond v (Some (digits_value 10 text)) None ≡ Some n → list_all is_ascii_digit text ≡ true) (are_digits text most_digits)
     (λ _ are e. (and_parts _ (list_all is_ascii_digit text) are).1) (λ _ are e. absurd (cc)) refl e
 
-pub plain_number-digits : (text : List ℕ) (n : ℕ) → plain_number text ≡ Some n → list_all is_ascii_digit text ≡ true
+plain_number-digits : (text : List ℕ) (n : ℕ) → plain_number text ≡ Some n → list_all is_ascii_digit text ≡ true
 plain_number-digits [] n e = absurd (cc)
 plain_number-digits (digit ∷ digits) n e =
     by (λ v. cond v None (option_and_then within_32_bits (number_of (digit ∷ digits) most_digits)) ≡ Some n → list_all is_ascii_digit (digit ∷ digits) ≡ true) (digit == zero_digit)
@@ -253,6 +253,12 @@ plain_number-digits (digit ∷ digits) n e =
       | Some m ↦ λ is e. number-digits (digit ∷ digits) m is
     ] refl e) e
 
+pub version-digits : (text : List ℕ) (n : ℕ) → version_written text ≡ Some n → list_all is_ascii_digit text ≡ true
+version-digits text n e =
+    by (λ v. cond v (Some 0) (plain_number text) ≡ Some n → list_all is_ascii_digit text ≡ true) (bytes_eq text (codes "0"))
+    (λ zero _. subst (λ t. list_all is_ascii_digit t ≡ true) (sym ((bytes_eq-Decides text (codes "0")).0 zero)) refl)
+    (λ _ e. plain_number-digits text n e) e
+
 -- a text that names a route is ASCII
 read-ascii : (text : List ℕ) (parameter : Parameter) (found : Route) → route_with text parameter ≡ Some found → IsAscii text
 read-ascii text (numbered route) found e =
@@ -260,10 +266,16 @@ read-ascii text (numbered route) found e =
       | None ↦ λ _ e. absurd (cc)
       | Some n ↦ λ is _. all-ascii is_ascii_digit digit-ascii text (plain_number-digits text n is)
     ] refl e
+read-ascii text (versioned route) found e =
+    elim (version_written text) as (λ o. version_written text ≡ o → option_map route o ≡ Some found → IsAscii text) [
+      | None ↦ λ _ e. absurd (cc)
+      | Some n ↦ λ is _. all-ascii is_ascii_digit digit-ascii text (version-digits text n is)
+    ] refl e
 
 -- the empty text names none
 read-nil : (parameter : Parameter) → route_with [] parameter ≡ None
 read-nil (numbered route) = refl
+read-nil (versioned route) = refl
 
 -- a parameter takes a text that names a route
 takes-text : (text : List ℕ) (parameter : Parameter) (found : Route) → has_slash text ≡ false → route_with text parameter ≡ Some found → takes (256 ∷ []) text ≡ true

@@ -1,14 +1,10 @@
 -- What the target of a feed's request names: /feeds/, the name of a watch, a slash and a version.
-use Rattle.std.specs.Prelude.{ℕ, List, [], ◌∷◌, codes, Option, None, Some, if◌then◌else◌}
+use Rattle.std.specs.Prelude.{List, [], ◌∷◌, codes, Option, None, if◌then◌else◌}
 use Rattle.std.specs.Option.{option_map, option_and_then}
 use Rattle.std.specs.Str.{bytes_eq}
 use Rattle.desk_bodies.specs.Commits.{if_name}
-use Rattle.desk_http.specs.Targets.{pieces, plain_number}
+use Rattle.desk_http.specs.Targets.{pieces, version_written}
 use Rattle.desk_http.specs.declared.port.Feed.{Feed}
-
--- the number of 32 bits that is written as 0, or by 1 to 10 digits of which the first is no zero
-abbrev pub version_written : List ℕ → Option ℕ
-version_written text = if bytes_eq text (codes "0") then Some 0 else plain_number text
 
 -- the feed of the watch of this name after this version, if they are a name and a version
 abbrev pub feed_named : List ℕ → List ℕ → Option Feed

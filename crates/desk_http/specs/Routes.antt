@@ -22,7 +22,7 @@ use Rattle.desk_http.specs.ReportsRoute.{cancel_asked, report_asked}
 use Rattle.desk_http.specs.VisitsRoute.{visit_added}
 use Rattle.desk_http.specs.Targets.{route_of}
 use Rattle.desk_http.specs.declared.targets.Route.{Route}
-use Rattle.desk_http.specs.declared.targets.Route.TheVariants.{Visits, Commits, Mvt, Reports, Cancels, Version, Unplaced, Airport, Visit, Entry, Plan, Chart, Day}
+use Rattle.desk_http.specs.declared.targets.Route.TheVariants.{Visits, Commits, Mvt, Reports, Cancels, Version, Unplaced, Airport, Visit, Entry, Plan, Chart, Day, History}
 
 -- what is done with the body of a request: it is passed over, or read as a text or as JSON
 pub data BodyKind : Type 0 where
@@ -129,6 +129,7 @@ what_asked airport (Entry number) desk body = Ok (what.Entry number)
 what_asked airport (Plan day) desk body = day_asked airport day (what.Plan day)
 what_asked airport (Chart day) desk body = day_asked airport day (what.Chart day)
 what_asked airport (Day day) desk body = day_asked airport day (what.Day day)
+what_asked airport (History version) desk body = Ok (what.History version)
 
 -- what is asked, or the first reply that is fixed: by the target and the method, then by the
 -- version that the desk says it has seen, then by the desk's name, then by the day or the body

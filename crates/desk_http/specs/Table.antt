@@ -6,10 +6,10 @@ use Rattle.matchit.specs.Order.{placed}
 use Rattle.matchit.specs.Route.{Scan, parse_route}
 use Rattle.matchit.specs.Router.{RouteOf, route_from}
 use Rattle.matchit.specs.declared.error.InsertError.{InsertError}
-use Rattle.desk_http.specs.Targets.{plain_number, slash}
+use Rattle.desk_http.specs.Targets.{plain_number, slash, version_written}
 use Rattle.desk_http.specs.declared.targets.TheConstants.{PATTERNS}
 use Rattle.desk_http.specs.declared.targets.Endpoint.{Endpoint}
-use Rattle.desk_http.specs.declared.targets.Endpoint.TheVariants.{Visits, Commits, Mvt, Reports, Cancels, Version, Unplaced, Airport, Visit, Entry, Plan, Chart, Day}
+use Rattle.desk_http.specs.declared.targets.Endpoint.TheVariants.{Visits, Commits, Mvt, Reports, Cancels, Version, Unplaced, Airport, Visit, Entry, Plan, Chart, Day, History}
 use Rattle.desk_http.specs.declared.targets.Route.{Route}
 use Rattle.desk_http.specs.declared.targets.Route.TheVariants as route
 
@@ -57,3 +57,4 @@ route_at Entry text = option_map route.Entry (plain_number text)
 route_at Plan text = option_map route.Plan (plain_number text)
 route_at Chart text = option_map route.Chart (plain_number text)
 route_at Day text = option_map route.Day (plain_number text)
+route_at History text = option_map route.History (version_written text)

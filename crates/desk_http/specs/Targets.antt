@@ -5,11 +5,12 @@ use Rattle.std.specs.Str.{bytes_eq}
 use Rattle.apron_base.specs.Digits.{most_digits, number_of}
 use Rattle.desk_http.specs.Numbers.{within_32_bits}
 use Rattle.desk_http.specs.declared.targets.Route.{Route}
-use Rattle.desk_http.specs.declared.targets.Route.TheVariants.{Visits, Commits, Mvt, Reports, Cancels, Version, Unplaced, Airport, Visit, Entry, Plan, Chart, Day}
+use Rattle.desk_http.specs.declared.targets.Route.TheVariants.{Visits, Commits, Mvt, Reports, Cancels, Version, Unplaced, Airport, Visit, Entry, Plan, Chart, Day, History}
 
--- how a text after a word names a route: by a number
+-- how a text after a word names a route: by a number, or by a version, which may be 0
 pub data Parameter : Type 0 where
   numbered : (ℕ → Route) → Parameter
+  versioned : (ℕ → Route) → Parameter
 
 -- the routes that a word alone names, each with its word
 abbrev pub routes_of_words : List (List ℕ × Route)
@@ -32,6 +33,7 @@ routes_with_text =
     ∷ (codes "plan", numbered Plan)
     ∷ (codes "chart", numbered Chart)
     ∷ (codes "day", numbered Day)
+    ∷ (codes "history", versioned History)
     ∷ []
 
 -- what stands at this word
@@ -65,9 +67,14 @@ plain_number (digit ∷ digits) =
     if digit == zero_digit then None
     else option_and_then within_32_bits (number_of (digit ∷ digits) most_digits)
 
+-- the number of 32 bits that is written as 0, or by 1 to 10 digits of which the first is no zero
+abbrev pub version_written : List ℕ → Option ℕ
+version_written text = if bytes_eq text (codes "0") then Some 0 else plain_number text
+
 -- the route that this text names
 abbrev pub route_with : List ℕ → Parameter → Option Route
 route_with text (numbered route) = option_map route (plain_number text)
+route_with text (versioned route) = option_map route (version_written text)
 
 -- the route that the pieces of a target name: a slash and a word, or a slash, a word, a slash and
 -- a text

@@ -2,7 +2,7 @@
 ghost use Rattle.std.specs.Prelude.{◌≡◌};
 ghost use Rattle.desk_http.specs.Complete.{IsCompleteBy};
 ghost use Rattle.desk_http.specs.FedSession.{FedAnswers, FedSessionOf, feed_asked as feed_asked_lem, feed_asked_of as feed_asked_of_lem};
-ghost use Rattle.desk_http.specs.FeedTargets.{feed_named as feed_named_lem, feed_of as feed_of_lem, version_written as version_written_lem};
+ghost use Rattle.desk_http.specs.FeedTargets.{feed_named as feed_named_lem, feed_of as feed_of_lem};
 ghost use Rattle.desk_http.specs.Routes.{said_by};
 
 use crate::answering::{Answerer, write_acted, write_early};
@@ -10,7 +10,7 @@ use crate::names::name_told;
 use crate::port::{Feed, FeedAsk, FeedPort};
 use crate::routes::seen_of;
 use crate::serving::session_by;
-use crate::targets::{DeskRoutes, plain_number, slash_at};
+use crate::targets::{DeskRoutes, slash_at, version_written};
 use apron_base::{Name, Outcome, Sink, Source};
 use desk_words::early::EarlyReply;
 use http_framing::RequestParts;
@@ -104,14 +104,4 @@ fn feed_named(name: &[u8], version: &[u8]) -> Option<Feed>
     let watch = name_told(name)?;
     let after = version_written(version)?;
     Some(Feed { watch, after })
-}
-
-// The number of 32 bits that is written as 0, or by 1 to 10 digits of which the first is no zero.
-fn version_written(text: &[u8]) -> Option<u32>
-    ensures is { result ≡ version_written_lem text.now }
-{
-    match text {
-        b"0" => Some(0),
-        _ => plain_number(text),
-    }
 }

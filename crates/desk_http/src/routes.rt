@@ -141,6 +141,7 @@ fn what_asked(
         Route::Plan(day) => day_asked(airport, day, What::Plan(day)),
         Route::Chart(day) => day_asked(airport, day, What::Chart(day)),
         Route::Day(day) => day_asked(airport, day, What::Day(day)),
+        Route::History(version) => Ok(What::History(version)),
     })
 }
 

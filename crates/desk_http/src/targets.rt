@@ -1,7 +1,7 @@
 // What the target of a request names.
 ghost use Rattle.std.specs.Prelude.{◌≡◌, ◌==◌, ◌<◌, IfOk, IfSome, OnOk, length, position};
 ghost use Rattle.desk_http.specs.Table.{route_at as route_at_lem, table, text_after_word as text_after_word_lem, with_route, with_routes};
-ghost use Rattle.desk_http.specs.Targets.{plain_number as plain_number_lem, route_of as route_of_lem, slash};
+ghost use Rattle.desk_http.specs.Targets.{plain_number as plain_number_lem, route_of as route_of_lem, slash, version_written as version_written_lem};
 
 use crate::numbers::within_32_bits;
 use apron_base::{MAX_DIGITS, Memory, number_of};
@@ -24,6 +24,7 @@ pub(crate) enum Endpoint {
     Plan,
     Chart,
     Day,
+    History,
 }
 
 /// What a target names.
@@ -47,11 +48,13 @@ pub(crate) enum Route {
     Chart(u32),
     /// The visits of this day.
     Day(u32),
+    /// The digest of this version.
+    History(u32),
 }
 
 /// All endpoints with the router's patterns of their targets, in the order of the definition's two
 /// lists.
-const PATTERNS: [(&str, Endpoint); 13] = [
+const PATTERNS: [(&str, Endpoint); 14] = [
     ("/visits", Endpoint::Visits),
     ("/commits", Endpoint::Commits),
     ("/mvt", Endpoint::Mvt),
@@ -65,6 +68,7 @@ const PATTERNS: [(&str, Endpoint); 13] = [
     ("/plan/{n}", Endpoint::Plan),
     ("/chart/{n}", Endpoint::Chart),
     ("/day/{n}", Endpoint::Day),
+    ("/history/{n}", Endpoint::History),
 ];
 
 /// The routes of a desk.
@@ -143,6 +147,7 @@ fn route_at(endpoint: Endpoint, text: &[u8]) -> Option<Route>
         Endpoint::Plan => Route::Plan(plain_number(text)?),
         Endpoint::Chart => Route::Chart(plain_number(text)?),
         Endpoint::Day => Route::Day(plain_number(text)?),
+        Endpoint::History => Route::History(version_written(text)?),
     })
 }
 
@@ -174,5 +179,15 @@ pub(crate) fn plain_number(text: &[u8]) -> Option<u32>
     match text {
         [] | [b'0', ..] => None,
         _ => within_32_bits(number_of(text, MAX_DIGITS)?),
+    }
+}
+
+/// The number of 32 bits that is written as 0, or by 1 to 10 digits of which the first is no zero.
+pub(crate) fn version_written(text: &[u8]) -> Option<u32>
+    ensures is { result ≡ version_written_lem text.now }
+{
+    match text {
+        b"0" => Some(0),
+        _ => plain_number(text),
     }
 }

@@ -1,13 +1,14 @@
 -- Texts that JSON does not escape.
 use Rattle.std.proofs.Common.{◌≡◌, ◌∙◌, ◌++◌, ◌∷◌, ◌==◌, ◌<◌, ◌/◌, ◌%◌, [], ℕ, zero, suc, Bool, List, true, false, decimal, drop, refl, ap, arith}
-use Rattle.std.specs.Prelude.{if◌then◌else◌}
+use Rattle.std.specs.Prelude.{if◌then◌else◌, slice_index}
 use Rattle.std.specs.Cmp.Derive.{both_true}
 use Rattle.std.specs.Fmt.{digits, digits_onto, digit_glyph}
 use Rattle.std.proofs.lemmas.Bool.{and_parts}
 use Rattle.std.proofs.lemmas.Bool.Decides.{nat_tests}
 use Rattle.std.proofs.lemmas.List.Elements.{All-weaker}
 use Rattle.std.proofs.lemmas.List.Folds.{list_all-append}
-use Rattle.std.proofs.lemmas.List.Sums.{list_all-from_AllPass}
+use Rattle.std.proofs.lemmas.List.Sums.{AllPass-from_list_all, list_all-from_AllPass}
+use Rattle.hex.specs.Hex.{IsBytes, encode_lower, encode_with, lower_digits}
 use Rattle.serde_json.proofs.OnLiterals.{serde_json_on_literals}
 use Rattle.serde_json.specs.Data.{string}
 use Rattle.serde_json.specs.Written.{compact_text}
@@ -60,6 +61,16 @@ digits_plain (suc count) n line h =
 pub decimal_plain : (n : ℕ) → is_plain (decimal n) ≡ true
 unfolding digits
 decimal_plain n = digits_plain 64 n [] refl
+
+hex_digit_plain : (digit : ℕ) → digit < 16 → is_plain_byte (slice_index lower_digits digit) ≡ true
+hex_digit_plain digit small = AllPass-from_list_all is_plain_byte lower_digits refl digit 0 small
+
+pub hex_plain : (bytes : List ℕ) → IsBytes bytes → is_plain (encode_lower bytes) ≡ true
+unfolding encode_with
+hex_plain [] each = refl
+hex_plain (byte ∷ bytes) each =
+    let first : byte < 256 = each 0 in
+    both_true (hex_digit_plain (byte / 16) (omega arith)) (both_true (hex_digit_plain (byte % 16) (omega arith)) (hex_plain bytes (λ place. each (suc place))))
 
 pub rule_plain : (rule : Rule) → is_plain (rule_word rule) ≡ true
 rule_plain Same = refl

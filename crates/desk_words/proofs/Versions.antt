@@ -15,7 +15,7 @@ use Rattle.desk_words.specs.declared.early.EarlyReply.{EarlyReply}
 use Rattle.desk_words.specs.declared.early.EarlyReply.TheVariants.{NoRoute, OnlyGet, OnlyPost, BadSeen, BadDesk, NoDay, NotJson, NotMvt, BadType, BadStand, NoStand, BadTimes}
 use Rattle.desk_words.specs.declared.replies.Reply.{Reply}
 use Rattle.desk_words.specs.declared.replies.ReplyBody.{ReplyBody}
-use Rattle.desk_words.specs.declared.replies.ReplyBody.TheVariants.{Added, Committed, Message, Reported, Cancelled, Version, Visit as AVisit, Plan, Unplaced, Chart, Entry, Airport, Day, NoVisit, NoEntry, Ahead, Full, OtherName, Edit, Denied}
+use Rattle.desk_words.specs.declared.replies.ReplyBody.TheVariants.{Added, Committed, Message, Reported, Cancelled, Version, Visit as AVisit, Plan, Unplaced, Chart, Entry, Airport, Day, History, NoVisit, NoEntry, Ahead, Full, OtherName, Edit, Denied}
 use Rattle.desk_words.specs.Early.{early_text}
 use Rattle.desk_words.specs.Fixed.{fixed_texts, no_memory_text, keeper_fault_text, bad_encoding_text, bad_head_text, large_body_text, no_length_text}
 use Rattle.desk_words.specs.Replies.{body_text, fault_code, media_of, reply_text, status_code}
@@ -52,6 +52,7 @@ code_one_line (Chart text) = refl
 code_one_line (Entry entry call desk kind) = refl
 code_one_line Airport = refl
 code_one_line (Day visits) = refl
+code_one_line (History entries digest) = refl
 code_one_line NoVisit = refl
 code_one_line NoEntry = refl
 code_one_line Ahead = refl
@@ -80,6 +81,7 @@ media_one_line (Chart text) = refl
 media_one_line (Entry entry call desk kind) = refl
 media_one_line Airport = refl
 media_one_line (Day visits) = refl
+media_one_line (History entries digest) = refl
 media_one_line NoVisit = refl
 media_one_line NoEntry = refl
 media_one_line Ahead = refl

@@ -1,5 +1,6 @@
--- An entry of the history, as replies give it.
+-- An entry of the history and the digest of entries, as replies give them.
 use Rattle.std.specs.Prelude.{ℕ, List, Option, codes}
+use Rattle.hex.specs.Hex.{encode_lower}
 use Rattle.serde_json.specs.Data.{Data, string, object, member, no_members}
 use Rattle.desk_asks.specs.declared.asks.EntryKind.{EntryKind}
 use Rattle.desk_asks.specs.declared.asks.EntryKind.TheVariants.{Visit, Commit, Message, Report, Cancel}
@@ -22,3 +23,10 @@ entry_data entry call desk kind version =
     (member (codes "entry") (whole entry)
     (member (codes "kind") (string (kind_word kind))
     (member (codes "version") (whole version) no_members)))))
+
+-- {"digest":HEX,"entry":K,"version":N}
+abbrev pub history_data : ℕ → List ℕ → ℕ → Data
+history_data entries digest version =
+    object (member (codes "digest") (string (encode_lower digest))
+    (member (codes "entry") (whole entries)
+    (member (codes "version") (whole version) no_members)))

@@ -12,10 +12,10 @@ use Rattle.visit_book.specs.declared.edits.EditFault.{EditFault}
 use Rattle.visit_book.specs.declared.edits.EditFault.TheVariants.{Overtaken, Memory}
 use Rattle.desk_words.specs.declared.replies.Reply.{Reply}
 use Rattle.desk_words.specs.declared.replies.ReplyBody.{ReplyBody}
-use Rattle.desk_words.specs.declared.replies.ReplyBody.TheVariants.{Added, Committed, Message, Reported, Cancelled, Version, Visit, Plan, Unplaced, Chart, Entry, Airport, Day, NoVisit, NoEntry, Ahead, Full, OtherName, Edit, Denied}
+use Rattle.desk_words.specs.declared.replies.ReplyBody.TheVariants.{Added, Committed, Message, Reported, Cancelled, Version, Visit, Plan, Unplaced, Chart, Entry, Airport, Day, History, NoVisit, NoEntry, Ahead, Full, OtherName, Edit, Denied}
 use Rattle.desk_words.specs.PartObjects.{or_null, part_data, whole}
 use Rattle.desk_words.specs.AirportObjects.{airport_data}
-use Rattle.desk_words.specs.EntryObjects.{entry_data}
+use Rattle.desk_words.specs.EntryObjects.{entry_data, history_data}
 use Rattle.desk_words.specs.VisitObjects.{day_data, visit_data}
 use Rattle.desk_words.specs.FaultObjects.{denial_word, fault_data, other_name_data, refused_data}
 use Rattle.desk_words.specs.RowObjects.{plan_data, unplaced_data}
@@ -63,6 +63,7 @@ reply_data airport version (Chart text) = null
 reply_data airport version (Entry entry call desk kind) = entry_data entry call desk kind version
 reply_data airport version Airport = airport_data airport version
 reply_data airport version (Day visits) = day_data airport visits version
+reply_data airport version (History entries digest) = history_data entries digest version
 reply_data airport version NoVisit = refused_data (codes "visit") version
 reply_data airport version NoEntry = refused_data (codes "entry") version
 reply_data airport version Ahead = refused_data (codes "ahead") version
@@ -91,6 +92,7 @@ status_code (Chart text) = 200
 status_code (Entry entry call desk kind) = 200
 status_code Airport = 200
 status_code (Day visits) = 200
+status_code (History entries digest) = 200
 status_code NoVisit = 404
 status_code NoEntry = 404
 status_code Ahead = 409

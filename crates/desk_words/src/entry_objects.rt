@@ -1,10 +1,10 @@
-// An entry of the history, as replies give it.
+// An entry of the history and the digest of entries, as replies give them.
 #![tactic(auto, unfolding(serde_json::proofs::OnLiterals::serde_json_on_literals))]
 
 ghost use Rattle.std.specs.Prelude.{◌≡◌, ◌++◌, OnOk};
 ghost use Rattle.serde_json.specs.Data.{string};
 ghost use Rattle.serde_json.specs.Written.{compact_text};
-ghost use Rattle.desk_words.specs.EntryObjects.{entry_data, kind_word};
+ghost use Rattle.desk_words.specs.EntryObjects.{entry_data, history_data, kind_word};
 
 use crate::json_text::Json;
 use crate::push_object;
@@ -30,6 +30,19 @@ pub(crate) fn push_entry(
         "kind": kind,
         "version": version,
     })
+}
+
+pub(crate) fn push_history(
+    bytes: &mut Vec<u8>,
+    entries: u32,
+    digest: &[u8; 32],
+    version: u32,
+) -> Result<(), Memory>
+    ensures text { OnOk result
+        (bytes.new.items
+        ≡ bytes.old.items ++ compact_text (history_data entries digest.now version)) }
+{
+    push_object!(bytes, &(), { "digest": *digest, "entry": entries, "version": version })
 }
 
 impl<At> Json<At> for EntryKind {

@@ -1,5 +1,6 @@
 // Values that are written as JSON at the end of bytes, as `serde_json` would write them.
 ghost use Rattle.std.specs.Prelude.{◌≡◌, ◌++◌, map, true, All, IfSome, OnOk};
+ghost use Rattle.hex.specs.Hex.{encode_lower};
 ghost use Rattle.serde_json.specs.Data.{array, boolean, null, string};
 ghost use Rattle.serde_json.specs.View.{items_of};
 ghost use Rattle.serde_json.specs.Written.{compact_text};
@@ -71,6 +72,15 @@ impl<At> Json<At> for Name {
     #[tactic(auto, using(crate::proofs::PlainTexts::name_plain))]
     fn push(&self, bytes: &mut Vec<u8>, _at: &At) -> Result<(), Memory> {
         push_text(bytes, self.bytes())
+    }
+}
+
+/// The digits of a digest.
+impl<At> Json<At> for [u8; 32] {
+    ghost json = { λ _ digest. string (encode_lower digest) };
+
+    fn push(&self, bytes: &mut Vec<u8>, _at: &At) -> Result<(), Memory> {
+        push_text(bytes, &digits_of(self))
     }
 }
 
@@ -151,4 +161,14 @@ fn push_text(bytes: &mut Vec<u8>, text: &[u8]) -> Result<(), Memory>
     bytes.extend_from_slice(text)?;
     bytes.push(b'"')?;
     Ok(())
+}
+
+/// A digest as hexadecimal digits, with small letters.
+pub fn digits_of(digest: &[u8; 32]) -> [u8; 64]
+    ensures text { result ≡ encode_lower digest.now }
+    ensures plain { is_plain result ≡ true }
+{
+    let mut text = [0; 64];
+    let _ = hex::encode_to_slice(digest.as_slice(), &mut text);
+    text
 }

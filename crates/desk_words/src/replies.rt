@@ -7,7 +7,7 @@ ghost use Rattle.desk_words.specs.Replies.{IsTellable, added_data, body_text, fa
 
 use crate::airport_objects::push_airport;
 use crate::bumped_objects::{push_message, push_reported};
-use crate::entry_objects::push_entry;
+use crate::entry_objects::{push_entry, push_history};
 use crate::fault_objects::{denial_word, push_fault, push_other_name, push_refused};
 use crate::push_object;
 use crate::row_objects::{push_plan, push_unplaced};
@@ -93,6 +93,11 @@ pub enum ReplyBody {
     Day {
         visits: Listed<Visit>,
     },
+    /// The digest of the history's first entries, this many.
+    History {
+        entries: u32,
+        digest: [u8; 32],
+    },
     /// There is no visit of this number.
     NoVisit,
     /// There is no entry of this number.
@@ -177,7 +182,8 @@ fn code(told: &ReplyBody) -> StatusCode
         | ReplyBody::Chart { .. }
         | ReplyBody::Entry { .. }
         | ReplyBody::Airport
-        | ReplyBody::Day { .. } => StatusCode::OK,
+        | ReplyBody::Day { .. }
+        | ReplyBody::History { .. } => StatusCode::OK,
         ReplyBody::NoVisit | ReplyBody::NoEntry => StatusCode::NOT_FOUND,
         ReplyBody::Ahead | ReplyBody::Full | ReplyBody::OtherName { .. } => StatusCode::CONFLICT,
         ReplyBody::Edit(fault) => fault_code(*fault),
@@ -298,6 +304,7 @@ fn push_body(
         } => push_entry(body, *entry, *call, desk, *kind, version),
         ReplyBody::Airport => push_airport(body, airport, version),
         ReplyBody::Day { visits } => push_day(body, airport, visits, version),
+        ReplyBody::History { entries, digest } => push_history(body, *entries, digest, version),
         ReplyBody::NoVisit => push_refused(body, "visit", version),
         ReplyBody::NoEntry => push_refused(body, "entry", version),
         ReplyBody::Ahead => push_refused(body, "ahead", version),

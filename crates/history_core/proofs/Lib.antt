@@ -11,6 +11,7 @@ pub mod NewVisits
 pub mod Bumps
 pub mod Takings
 pub mod Keepers
+pub mod Chains
 pub mod Acts
 pub mod Boards
 pub mod Openings

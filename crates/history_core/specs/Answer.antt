@@ -10,11 +10,11 @@ use Rattle.desk_asks.specs.Commands.{desk_of, kind_of}
 use Rattle.desk_asks.specs.declared.asks.Command.{Command}
 use Rattle.desk_asks.specs.declared.asks.Entry.{Entry}
 use Rattle.desk_asks.specs.declared.asks.What.{What}
-use Rattle.desk_asks.specs.declared.asks.What.TheVariants.{Change, Version as AskVersion, Visit as AskVisit, Plan as AskPlan, Unplaced as AskUnplaced, Chart as AskChart, Entry as AskEntry, Airport as AskAirport, Day as AskDay}
+use Rattle.desk_asks.specs.declared.asks.What.TheVariants.{Change, Version as AskVersion, Visit as AskVisit, Plan as AskPlan, Unplaced as AskUnplaced, Chart as AskChart, Entry as AskEntry, Airport as AskAirport, Day as AskDay, History as AskHistory}
 use Rattle.desk_asks.specs.declared.asks.Ask.{Ask}
 use Rattle.desk_words.specs.declared.replies.Reply.{Reply}
 use Rattle.desk_words.specs.declared.replies.ReplyBody.{ReplyBody}
-use Rattle.desk_words.specs.declared.replies.ReplyBody.TheVariants.{Version as ToldVersion, Visit as ToldVisit, Plan as ToldPlan, Unplaced as ToldUnplaced, Chart as ToldChart, Entry as ToldEntry, Airport as ToldAirport, Day as ToldDay, NoVisit, NoEntry, Ahead}
+use Rattle.desk_words.specs.declared.replies.ReplyBody.TheVariants.{Version as ToldVersion, Visit as ToldVisit, Plan as ToldPlan, Unplaced as ToldUnplaced, Chart as ToldChart, Entry as ToldEntry, Airport as ToldAirport, Day as ToldDay, History as ToldHistory, NoVisit, NoEntry, Ahead}
 use Rattle.desk_words.specs.Fixed.{no_memory_text, keeper_fault_text}
 use Rattle.desk_words.specs.Replies.{reply_text}
 use Rattle.plan_lists.specs.Held.{held_on}
@@ -22,6 +22,7 @@ use Rattle.plan_lists.specs.OfDay.{visits_on}
 use Rattle.plan_lists.specs.Unplaced.{unplaced_parts}
 use Rattle.wall_chart.specs.Chart.{chart_text}
 use Rattle.history_core.specs.Acceptance.{Stepped, TakenAs, accepted, reply_at, stepped_reply}
+use Rattle.history_core.specs.Digests.{digest_at}
 use Rattle.history_core.specs.History.{IsLegal, entry_at, replay}
 
 -- what an ask comes to at a plan: a command that may change it, or what a reply says of the plan as
@@ -46,6 +47,11 @@ entry_told number None = NoEntry
 entry_told number (Some entry) =
     ToldEntry number entry.call (desk_of entry.command) (kind_of entry.command)
 
+-- the digest of the first entries, this many, or that there are not so many
+abbrev pub history_told : ℕ → Option (List ℕ) → ReplyBody
+history_told entries None = NoEntry
+history_told entries (Some digest) = ToldHistory entries digest
+
 -- what is sought of a history and the plan that it makes, a line for each question
 abbrev pub sought_of : PlanState → List Entry → What → Sought
 sought_of plan history (Change command) = changes command
@@ -58,6 +64,8 @@ sought_of plan history (AskChart day) = told (ToldChart (chart_text plan.airport
 sought_of plan history (AskEntry number) = told (entry_told number (entry_at history number))
 sought_of plan history AskAirport = told ToldAirport
 sought_of plan history (AskDay day) = told (ToldDay (visits_on plan day))
+sought_of plan history (AskHistory entries) =
+    told (history_told entries (digest_at history entries))
 
 -- what an ask comes to: one that has seen a version later than the plan's is ahead, whatever it
 -- asks

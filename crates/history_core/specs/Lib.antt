@@ -1,5 +1,6 @@
 pub mod Acceptance
 pub mod History
+pub mod Digests
 pub mod Answer
 pub mod Taking
 pub mod Bumped

@@ -10,13 +10,15 @@ ghost use Rattle.history_core.specs.Acceptance.{TakenAs, accepted, stepped_reply
 ghost use Rattle.history_core.specs.History.{IsAskOf, IsLegal, call_limit, call_of, replay};
 ghost use Rattle.history_core.specs.Bumped.{last_bumped};
 ghost use Rattle.history_core.specs.Answer.{IsTold, Replies, Sought, ask_outcome, changes, told, visit_told};
+ghost use Rattle.history_core.specs.Digests.{digest_at};
 ghost use Rattle.history_core.specs.Board.{ActsOnBoard, AsksBoard, IsKeeperOf, entry_texts};
 ghost use Rattle.history_core.specs.Opening.{CannotOpen, OpensBoard};
 ghost use Rattle.history_core.specs.Taking.{IsChangeOf};
 
 use crate::bumped::bumped_in;
+use crate::chain::Chain;
 use crate::opening::{OpenFault, Opening, opening_of};
-use crate::questions::{chart_told, day_told, entry_told, plan_told, unplaced_told};
+use crate::questions::{chart_told, day_told, entry_told, history_told, plan_told, unplaced_told};
 use crate::room::make_room;
 use crate::taking::{Taken, take_command};
 use apron_base::{Acted, Keeper, Listed, Memory, PartId, VisitNo};
@@ -39,7 +41,7 @@ pub struct Board<'a, K: Keeper> {
     airport: &'a Airport,
     keeper: K,
     plan: Plan,
-    history: Vec<Entry>,
+    history: Chain,
     bumped: Listed<PartId>,
     next: u64,
 }
@@ -53,7 +55,7 @@ impl<'a, K: Keeper> Model for Board<'a, K> {
     ghost view = { λ b. record {
       keeper = b.keeper;
       airport = b.airport.now;
-      history = b.history.items;
+      history = b.history.entries.items;
       at_risk = entry_read b.airport.now (K.state b.keeper).at_risk;
       next = b.next;
     } };
@@ -62,7 +64,7 @@ impl<'a, K: Keeper> Model for Board<'a, K> {
         (record {
           keeper = b.keeper;
           airport = b.airport.now;
-          history = b.history.items;
+          history = b.history.entries.items;
           at_risk = entry_read b.airport.now (K.state b.keeper).at_risk;
           next = b.next;
         }) };
@@ -129,7 +131,14 @@ impl<'a, K: Keeper> Board<'a, K> {
         ensures value { result.now ≡ self.now.history }
         ensures legal { IsLegal self.now.airport self.now.history }
     {
-        self.history.as_slice()
+        self.history.entries()
+    }
+
+    /// The digest of the first entries, this many, if there are so many.
+    pub fn digest_at(&self, entries: u32) -> Option<[u8; 32]>
+        ensures is { result ≡ digest_at self.now.history entries }
+    {
+        self.history.digest_at(entries)
     }
 
     /// The least number that the next call may have. The entries' numbers are lower.
@@ -180,9 +189,10 @@ impl<'a, K: Keeper> Board<'a, K> {
             What::Plan(day) => plan_told(alloc, self.airport, &self.plan, *day),
             What::Unplaced => unplaced_told(alloc, &self.plan),
             What::Chart(day) => chart_told(alloc, self.airport, &self.plan, *day),
-            What::Entry(number) => Ok(entry_told(self.history.as_slice(), *number)),
+            What::Entry(number) => Ok(entry_told(self.history.entries(), *number)),
             What::Airport => Ok(ReplyBody::Airport),
             What::Day(day) => day_told(alloc, self.airport, &self.plan, *day),
+            What::History(entries) => Ok(history_told(&self.history, *entries)),
         };
         self.reply_with(alloc, news)
     }
@@ -224,7 +234,7 @@ impl<'a, K: Keeper> Board<'a, K> {
         ensures acts { ActsOnBoard K.state self.old self.new call (What.Change command.now)
             (changes command.now) result }
     {
-        let entries = self.history.as_slice().len();
+        let entries = self.history.entries().len();
         match take_command(alloc, self.airport, &self.plan, entries, command) {
             Ok(Taken::Accepted(change, reply)) => self.accept(alloc, call, command, change, reply),
             Ok(Taken::Answered(reply)) => self.reply(alloc, &reply),
@@ -233,7 +243,7 @@ impl<'a, K: Keeper> Board<'a, K> {
     }
 
     // Makes the entry with its bytes and those of the reply, takes all room, and gives the entry to
-    // the keeper. Only then it changes the history, the plan and the bumped parts.
+    // the keeper. Only then it changes the history with its digests, the plan and the bumped parts.
     fn accept(
         &mut self,
         alloc: Global,
@@ -265,7 +275,7 @@ impl<'a, K: Keeper> Board<'a, K> {
         let Ok(()) = self.keeper.append(text.as_slice()) else {
             return Acted::Fault;
         };
-        self.history.push_reserved(entry);
+        self.history.push_reserved(entry, text.as_slice());
         self.plan.install(change);
         self.bumped = bumped_in(alloc, reply.told);
         self.next = call + 1;

@@ -4,6 +4,7 @@
 
 mod board;
 mod bumped;
+mod chain;
 mod laws;
 mod machine;
 mod opening;

@@ -6,11 +6,11 @@ ghost use Rattle.history_core.specs.History.{IsLegal, replay};
 ghost use Rattle.history_core.specs.Opening.{CannotOpen, IsReadOn, not_read};
 
 use crate::bumped::bumped_in;
+use crate::chain::Chain;
 use crate::room::make_room;
 use crate::taking::{Taken, take_command};
 use apron_base::{Listed, Memory, PartId};
 use apron_rules::Airport;
-use desk_asks::Entry;
 use entry_bytes::{EntryFault, decode_entry};
 use plan_core::Plan;
 use std::alloc::Global;
@@ -48,7 +48,7 @@ impl From<Memory> for OpenFault {
 pub struct Opening<'a> {
     pub(crate) airport: &'a Airport,
     pub(crate) plan: Plan,
-    pub(crate) history: Vec<Entry>,
+    pub(crate) history: Chain,
     pub(crate) bumped: Listed<PartId>,
     pub(crate) next: u64,
 }
@@ -58,10 +58,10 @@ impl<'a> Model for Opening<'a> {
 
     ghost Value = { OpeningHeld };
 
-    ghost view = { λ o. record { airport = o.airport.now; history = o.history.items } };
+    ghost view = { λ o. record { airport = o.airport.now; history = o.history.entries.items } };
 
     ghost invariant = { λ o. IsOpening o.plan.plan o.bumped o.next
-        (record { airport = o.airport.now; history = o.history.items }) };
+        (record { airport = o.airport.now; history = o.history.entries.items }) };
 }
 
 impl<'a> Opening<'a> {
@@ -73,7 +73,7 @@ impl<'a> Opening<'a> {
         Ok(Opening {
             airport,
             plan: Plan::new(alloc, airport)?,
-            history: Vec::new(alloc),
+            history: Chain::new(alloc)?,
             bumped: Listed::new(alloc),
             next: 1,
         })
@@ -99,12 +99,12 @@ impl<'a> Opening<'a> {
         if entry.call < self.next {
             return Err(OpenFault::WrongEntry(number));
         }
-        let entries = self.history.as_slice().len();
+        let entries = self.history.entries().len();
         match take_command(alloc, self.airport, &self.plan, entries, &entry.command)? {
             Taken::Accepted(change, reply) => {
                 make_room(&mut self.plan, &mut self.history, &change)?;
                 self.next = entry.call + 1;
-                self.history.push_reserved(entry);
+                self.history.push_reserved(entry, bytes);
                 self.plan.install(change);
                 self.bumped = bumped_in(alloc, reply.told);
                 Ok(())

@@ -5,9 +5,11 @@ ghost use Rattle.plan_lists.specs.Held.{held_on};
 ghost use Rattle.plan_lists.specs.OfDay.{visits_on};
 ghost use Rattle.plan_lists.specs.Unplaced.{unplaced_parts};
 ghost use Rattle.wall_chart.specs.Chart.{chart_text};
-ghost use Rattle.history_core.specs.Answer.{entry_told};
+ghost use Rattle.history_core.specs.Answer.{entry_told, history_told};
+ghost use Rattle.history_core.specs.Digests.{digest_at};
 ghost use Rattle.history_core.specs.History.{entry_at};
 
+use crate::chain::Chain;
 use apron_base::Memory;
 use apron_rules::Airport;
 use desk_asks::Entry;
@@ -92,6 +94,18 @@ pub(crate) fn entry_told(history: &[Entry], number: u32) -> ReplyBody
             desk: entry.command.desk(),
             kind: entry.command.kind(),
         },
+        None => ReplyBody::NoEntry,
+    }
+}
+
+/// The digest of the first entries, this many, or that there are not so many.
+pub(crate) fn history_told(history: &Chain, entries: u32) -> ReplyBody
+    ensures is { result
+        ≡ history_told entries (digest_at history.now.entries.items entries) }
+    ensures tellable { IsTellable result }
+{
+    match history.digest_at(entries) {
+        Some(digest) => ReplyBody::History { entries, digest },
         None => ReplyBody::NoEntry,
     }
 }

@@ -10,7 +10,7 @@ use Rattle.desk_asks.specs.declared.asks.Ask.{Ask}
 use Rattle.desk_asks.specs.declared.asks.Command.{Command}
 use Rattle.desk_asks.specs.declared.asks.Entry.{Entry}
 use Rattle.desk_asks.specs.declared.asks.What.{What}
-use Rattle.desk_asks.specs.declared.asks.What.TheVariants.{Change, Version as AskVersion, Visit as AskVisit, Plan as AskPlan, Unplaced as AskUnplaced, Chart as AskChart, Entry as AskEntry, Airport as AskAirport, Day as AskDay}
+use Rattle.desk_asks.specs.declared.asks.What.TheVariants.{Change, Version as AskVersion, Visit as AskVisit, Plan as AskPlan, Unplaced as AskUnplaced, Chart as AskChart, Entry as AskEntry, Airport as AskAirport, Day as AskDay, History as AskHistory}
 use Rattle.desk_words.specs.declared.replies.Reply.{Reply}
 use Rattle.desk_words.specs.declared.replies.ReplyBody.TheVariants.{Ahead}
 use Rattle.history_core.specs.Answer.{ActsAs, Given, GivesAnswer, Replies, Sought, added_entries, ask_outcome, changes, keeper_fault, no_memory, replied, sought_of, told}
@@ -39,6 +39,7 @@ asked_of plan history (AskChart day) command is = absurd (cc)
 asked_of plan history (AskEntry number) command is = absurd (cc)
 asked_of plan history AskAirport command is = absurd (cc)
 asked_of plan history (AskDay day) command is = absurd (cc)
+asked_of plan history (AskHistory entries) command is = absurd (cc)
 
 asked_if : (plan : PlanState) (history : List Entry) (what : What) (command : Command) (late : Bool)
     → (if late then told Ahead else sought_of plan history what) ≡ changes command → what ≡ Change command

@@ -5,6 +5,7 @@ ghost use Rattle.history_core.specs.History.{IsAskOf};
 use apron_base::{Acted, CALL_END, ListKeeper, Listed, Name, TypeNo};
 use apron_rules::Airport;
 use desk_asks::{Ask, Command, What};
+use desk_words::json_text::digits_of;
 use history_core::{Board, OpenFault};
 use std::alloc::Global;
 use std::test::Fail;
@@ -204,6 +205,86 @@ fn failed_appends_change_nothing_and_what_was_kept_opens_again(
 ) -> Result<(), Fail> {
     let airport = airport(rt.alloc())?;
     let is = is_opened_again(rt.alloc(), &airport)?;
+    assert!(rt; is);
+    Ok(())
+}
+
+// What sha256sum gives for 32 bytes of zero and A; for this digest and B; and for it and LATER.
+const OF_A: &str = "1c075ca1cef17b2f5dbcbe1b8eb8c048e8fa4a5b53d5d17112c8d2e21c034a90";
+
+const OF_A_AND_B: &str = "1678869d186855a4cfef09f60348d70a5f4396c398d367859498db3f8d6df7c8";
+
+const OF_A_AND_LATER: &str = "eb3b84906444221fa3a4d3525e58a945eabd396913d89f8c6941139a940cb88a";
+
+const OF_NONE: &str = "0000000000000000000000000000000000000000000000000000000000000000";
+
+// Whether a board has these digests, of no entry and of each number of entries, and no more.
+fn has_digests(board: &Board<'_, ListKeeper>, digests: &[&str]) -> bool {
+    let each = digests.iter().enumerate().all(|(entries, digest)| {
+        board
+            .digest_at(entries as u32)
+            .is_some_and(|found| digits_of(&found).as_slice() == digest.as_bytes())
+    });
+    each && board.digest_at(digests.len() as u32).is_none()
+}
+
+// Whether a board has these digests that was opened over these entries.
+fn opens_with_digests(
+    alloc: Global,
+    airport: &Airport,
+    entries: &[&[u8]],
+    digests: &[&str],
+) -> Result<bool, Fail> {
+    let entries = listed(alloc, entries)?;
+    Ok(match opened(alloc, airport, entries, Vec::new(alloc))? {
+        Ok(board) => has_digests(&board, digests),
+        Err(_) => false,
+    })
+}
+
+#[test]
+fn digests_of_two_plans_differ_from_the_first_other_entry_on(rt: HostRuntime) -> Result<(), Fail> {
+    let airport = airport(rt.alloc())?;
+    let rows: [(&[&[u8]], &[&str]); 4] = [
+        (&[], &[OF_NONE]),
+        (&[A], &[OF_NONE, OF_A]),
+        (&[A, B], &[OF_NONE, OF_A, OF_A_AND_B]),
+        (&[A, LATER], &[OF_NONE, OF_A, OF_A_AND_LATER]),
+    ];
+    for (entries, digests) in rows {
+        let is = opens_with_digests(rt.alloc(), &airport, entries, digests)?;
+        assert!(rt; is, "of {} entries", entries.len());
+    }
+    Ok(())
+}
+
+// Whether a board gets a digest with each entry, and with nothing else: an append fails, and a
+// visit comes once more.
+fn digests_grow(alloc: Global, airport: &Airport) -> Result<bool, Fail> {
+    let v1 = Some(Name::literal(b"V1"));
+    let v2 = Some(Name::literal(b"V2"));
+    let fails = Vec::from_slice(alloc, &[1])?;
+    let Ok(mut board) = opened(alloc, airport, Vec::new(alloc), fails)? else {
+        return Ok(false);
+    };
+    let none = has_digests(&board, &[OF_NONE]);
+    let first = is_answered(alloc, airport, &mut board, v1, Some(FIRST_ADDED));
+    let one = has_digests(&board, &[OF_NONE, OF_A]);
+    let lost = is_answered(alloc, airport, &mut board, v2, None);
+    let again = is_answered(alloc, airport, &mut board, v1, Some(FIRST_ADDED));
+    let same = has_digests(&board, &[OF_NONE, OF_A]);
+    // The calls of two questions, so that V2 comes by the sixth.
+    let asked = is_answered(alloc, airport, &mut board, None, Some(AT_FIRST))
+        && is_answered(alloc, airport, &mut board, None, Some(AT_FIRST));
+    let second = is_answered(alloc, airport, &mut board, v2, Some(SECOND_ADDED));
+    let two = has_digests(&board, &[OF_NONE, OF_A, OF_A_AND_LATER]);
+    Ok(none && first && one && lost && again && same && asked && second && two)
+}
+
+#[test]
+fn each_entry_makes_a_digest_and_nothing_else_does(rt: HostRuntime) -> Result<(), Fail> {
+    let airport = airport(rt.alloc())?;
+    let is = digests_grow(rt.alloc(), &airport)?;
     assert!(rt; is);
     Ok(())
 }

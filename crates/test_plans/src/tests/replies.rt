@@ -57,6 +57,7 @@ fn is_text(alloc: Global, airport: &Airport, reply: &Reply, status: &str, body: 
         | ReplyBody::Entry { .. }
         | ReplyBody::Airport
         | ReplyBody::Day { .. }
+        | ReplyBody::History { .. }
         | ReplyBody::NoVisit
         | ReplyBody::NoEntry
         | ReplyBody::Ahead

@@ -2,8 +2,9 @@ use Rattle.std.proofs.Common.{◌≡◌, ◌∙◌, ℕ, None, Option, Some, ap,
 use Rattle.apron_rules.specs.declared.parts.AirportParts.{AirportParts}
 use Rattle.apron_run.specs.Chart.{AtDay, IsChart}
 use Rattle.apron_run.specs.Export.{IsSeason}
+use Rattle.apron_run.specs.History.{IsDigest}
 use Rattle.apron_run.specs.Propose.{IsProposed}
-use Rattle.apron_run.specs.Words.{chart, export, number_within, propose, uses_disk}
+use Rattle.apron_run.specs.Words.{chart, export, history, number_within, propose, uses_disk}
 use Rattle.apron_run.specs.World.{RunWorld, run_world}
 use Rattle.apron_run.specs.declared.end.End.TheVariants.{Unasked}
 use Rattle.apron_run.proofs.Kept.{desk_source, desk_used, init_used, not_both, plan_used, season_used, untouched_same, upgrade_used}
@@ -51,7 +52,7 @@ returns-in-Some-clause-does g c =
 
 pub returns-in-Some-clause-disk_kept : goal.returns-in-Some-clause-disk_kept
 returns-in-Some-clause-disk_kept g c = rw c.in-Chart.is (λ airport types.
-    not_both _ (plan_used (uses_disk (chart airport types c.in-Chart.day.now)) refl refl refl c.args.files refl (IsChart c.in-Some.day) _ _ _
+    not_both _ (plan_used (uses_disk (chart airport types c.in-Chart.day.now)) refl refl refl c.args.files refl (IsChart c.in-Some.day) (λ opened none. absurd cc) _ _ _
     (c.text_of_journal.ensures.does (g.F.Shelf.state c.args.shelf.now) (g.S.Source.state c.args.source.now) (g.W.Sink.state c.args.sink.now))))
 
 pub returns-in-Chart-clause-does : goal.returns-in-Chart-clause-does
@@ -80,7 +81,7 @@ returns-in-Export-clause-does g c = rw c.in-Export.is
     (λ before airport types finds. record { found = Ok c.args.files; shelf = _; finds = finds; at = c.text_of_journal-in-Export.ensures.does _ _ _ })
 
 pub returns-in-Export-clause-disk_kept : goal.returns-in-Export-clause-disk_kept
-returns-in-Export-clause-disk_kept g c = rw c.in-Export.is (λ airport types. not_both _ (plan_used (uses_disk (export airport types)) refl refl refl c.args.files refl IsSeason _ _ _
+returns-in-Export-clause-disk_kept g c = rw c.in-Export.is (λ airport types. not_both _ (plan_used (uses_disk (export airport types)) refl refl refl c.args.files refl IsSeason (λ opened none. absurd cc) _ _ _
     (c.text_of_journal-in-Export.ensures.does (g.F.Shelf.state c.args.shelf.now) (g.S.Source.state c.args.source.now) (g.W.Sink.state c.args.sink.now))))
 
 pub returns-in-Propose-clause-does : goal.returns-in-Propose-clause-does
@@ -91,13 +92,23 @@ pub returns-in-Propose-clause-disk_kept : goal.returns-in-Propose-clause-disk_ke
 returns-in-Propose-clause-disk_kept g c =
     let desk = c.in-Propose.desk in
     let draft = c.in-Propose.draft in
-    rw c.in-Propose.is (λ airport types. not_both _ (plan_used (uses_disk (propose airport types desk draft)) refl refl refl c.args.files refl (IsProposed desk draft) _ _ _
+    rw c.in-Propose.is (λ airport types. not_both _ (plan_used (uses_disk (propose airport types desk draft)) refl refl refl c.args.files refl (IsProposed desk draft) (λ opened none. absurd none) _ _ _
     (c.text_of_journal-in-Propose.ensures.does (g.F.Shelf.state c.args.shelf.now) (g.S.Source.state c.args.source.now) (g.W.Sink.state c.args.sink.now))))
 
-pub returns-clause-does : goal.returns-clause-does
-returns-clause-does g c = rw c.in-Upgrade.is
+pub returns-in-Upgrade-clause-does : goal.returns-in-Upgrade-clause-does
+returns-in-Upgrade-clause-does g c = rw c.in-Upgrade.is
     (λ before airport types finds. record { found = Ok c.args.files; shelf = _; finds = finds; at = c.upgrade_journal.ensures.does _ _ _ })
 
-pub returns-clause-disk_kept : goal.returns-clause-disk_kept
-returns-clause-disk_kept g c = rw c.in-Upgrade.is (λ airport types. not_both _ (upgrade_used airport types c.args.files _ _ _
+pub returns-in-Upgrade-clause-disk_kept : goal.returns-in-Upgrade-clause-disk_kept
+returns-in-Upgrade-clause-disk_kept g c = rw c.in-Upgrade.is (λ airport types. not_both _ (upgrade_used airport types c.args.files _ _ _
     (c.upgrade_journal.ensures.does (g.F.Shelf.state c.args.shelf.now) (g.S.Source.state c.args.source.now) (g.W.Sink.state c.args.sink.now))))
+
+pub returns-clause-does : goal.returns-clause-does
+returns-clause-does g c = rw c.in-History.is
+    (λ before airport types finds. record { found = Ok c.args.files; shelf = _; finds = finds; at = c.text_of_journal-in-History.ensures.does _ _ _ })
+
+pub returns-clause-disk_kept : goal.returns-clause-disk_kept
+returns-clause-disk_kept g c =
+    let entries = c.in-History.entries in
+    rw c.in-History.is (λ airport types. not_both _ (plan_used (uses_disk (history airport types entries)) refl refl refl c.args.files refl (IsDigest entries) (λ opened none. refl) _ _ _
+    (c.text_of_journal-in-History.ensures.does (g.F.Shelf.state c.args.shelf.now) (g.S.Source.state c.args.source.now) (g.W.Sink.state c.args.sink.now))))

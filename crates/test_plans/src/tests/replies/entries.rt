@@ -1,4 +1,4 @@
-// Entries of the history.
+// Entries of the history, and its digests.
 use super::{NOT_FOUND, OK, has_text};
 use apron_base::Name;
 use desk_asks::EntryKind;
@@ -69,6 +69,26 @@ fn entries_are_these_bytes(rt: HostRuntime) -> Result<(), Fail> {
         let is = has_text(rt.alloc(), version, told, OK, body)?;
         assert!(rt; is, "at {body}");
     }
+    Ok(())
+}
+
+// A digest of a byte of each kind: digits, letters, and what is below 16.
+const DIGEST: [u8; 32] = [
+    0x00, 0x01, 0x09, 0x0a, 0x0f, 0x10, 0x1f, 0x7f, 0x80, 0x99, 0x9a, 0xa0, 0xa9, 0xaa, 0xaf, 0xb0,
+    0xbc, 0xc0, 0xcd, 0xd0, 0xde, 0xe0, 0xef, 0xf0, 0xf1, 0xf9, 0xfa, 0xfb, 0xfc, 0xfd, 0xfe, 0xff,
+];
+
+const OF_SEVEN: &str =
+    r#"{"digest":"0001090a0f101f7f80999aa0a9aaafb0bcc0cdd0dee0eff0f1f9fafbfcfdfeff","entry":7,"version":9}"#;
+
+#[test]
+fn a_digest_has_64_small_digits(rt: HostRuntime) -> Result<(), Fail> {
+    let told = ReplyBody::History {
+        entries: 7,
+        digest: DIGEST,
+    };
+    let is = has_text(rt.alloc(), 9, told, OK, OF_SEVEN)?;
+    assert!(rt; is);
     Ok(())
 }
 

@@ -1,5 +1,4 @@
 use Rattle.std.proofs.Common.{◌≡◌, ◌∙◌, ap, subst, sym}
-use Rattle.std.specs.Prelude.{IfOk}
 use Rattle.apron_rules.specs.declared.parts.AirportParts.{AirportParts}
 use Rattle.plan_core.specs.Drafts.{draft_version}
 use Rattle.plan_core.specs.PlanState.{PlanState}
@@ -19,5 +18,5 @@ returns g c =
     let is : c.plan.result.now.plan ≡ replay airport board.history =
     c.plan.ensures.replay ∙ ap (λ (a : AirportParts). replay a board.history) (sym c.requires.airport) in
     record {
-      answers = subst (λ (plan : PlanState). IfOk c.draft_text.result (IsDraftText plan (draft_version plan.drafts asked.desk asked.draft))) is c.draft_text.ensures.text;
+      answers = subst (λ (plan : PlanState). IsDraftText plan (draft_version plan.drafts asked.desk asked.draft) c.in_ok-draft_text.field-0) is c.in_ok-draft_text.ensures.text;
     }

@@ -11,7 +11,7 @@ use Rattle.history_core.proofs.board.Board.ask.Goals as goal
 pub invariant_of-self : goal.invariant_of-self
 invariant_of-self g c =
     let inside = c.self.inside in
-    let board : BoardHeld g.row.K.Denot = record { keeper = inside.keeper; airport = inside.airport.now; history = inside.history.items; at_risk = entry_read inside.airport.now (g.K.Keeper.state inside.keeper).at_risk; next = inside.next } in
+    let board : BoardHeld g.row.K.Denot = record { keeper = inside.keeper; airport = inside.airport.now; history = inside.history.entries.items; at_risk = entry_read inside.airport.now (g.K.Keeper.state inside.keeper).at_risk; next = inside.next } in
     let up = subst (λ (b : BoardHeld g.row.K.Denot). b.next ≤ c.args.call + 1) (sym c.self.view_is) c.answer-acted.ensures.acts.next in
     board_called inside.plan.plan inside.bumped (g.K.Keeper.state inside.keeper) board (c.args.call + 1) c.self.invariant up (omega (arith, c.requires.last))
 
@@ -19,7 +19,7 @@ pub returns-clause-numbers : goal.returns-clause-numbers
 returns-clause-numbers g c =
     let inside = c.self.inside in
     let up = subst (λ (b : BoardHeld g.row.K.Denot). b.next ≤ c.args.call + 1) (sym c.self.view_is) c.answer-acted.ensures.acts.next in
-    rises_more call_of 1 inside.next (c.args.call + 1) inside.history.items c.self.invariant.numbers up
+    rises_more call_of 1 inside.next (c.args.call + 1) inside.history.entries.items c.self.invariant.numbers up
 
 pub returns-clause-asks : goal.returns-clause-asks
 returns-clause-asks g c =
@@ -33,8 +33,8 @@ returns-clause-asks g c =
     record {
       acts = did.acts;
       airport = did.airport;
-      found = found_legal old.airport plan old.history call outcome did.acts.0 inside.history.items did.acts.2
-          (subst (λ a. IsLegal a inside.history.items) did.airport c.self.invariant.legal);
+      found = found_legal old.airport plan old.history call outcome did.acts.0 inside.history.entries.items did.acts.2
+          (subst (λ a. IsLegal a inside.history.entries.items) did.airport c.self.invariant.legal);
       legal = c.self.invariant.legal;
       faults = did.faults;
       at_risk = did.at_risk;
